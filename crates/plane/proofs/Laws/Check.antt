@@ -142,11 +142,15 @@ module _ (m : List ℤ) where
   one-detail n d e (row4 x s o p) (row2 y q r) = omega arith
   one-detail n d e (row4 x s o p) (row3 y t q r) = omega arith
 
-  below-five : (n d : ℕ) → Row m n d → n < 5
-  below-five n d (row1 x o p) = omega arith
-  below-five n d (row2 x o p) = omega arith
-  below-five n d (row3 x s o p) = omega arith
-  below-five n d (row4 x s o p) = omega arith
+  -- the rows have the numbers 1 to 4
+  pub row-small : (n d : ℕ) → Row m n d → n ≤ 4
+  row-small n d (row1 x o p) = omega arith
+  row-small n d (row2 x o p) = omega arith
+  row-small n d (row3 x s o p) = omega arith
+  row-small n d (row4 x s o p) = omega arith
+
+  above-none : {n d : ℕ} → Row m n d → n < 5
+  above-none {n} {d} r = let l = row-small n d r in omega arith
 
   -- ---- "the lowest number that applies is given"
   number-of : (n n′ d d′ : ℕ) → refused n d ≡ refused n′ d′ → n ≡ n′
@@ -171,7 +175,7 @@ module _ (m : List ℤ) where
       to (none q b g a e f) p = absurd (never n d (sym p ∙ q))
 
       from : First → Row m n d × NoneBelow n → verdict m ≡ refused n d
-      from (none q b g a e f) h = absurd (b n d (below-five n d (h .0)) (h .0))
+      from (none q b g a e f) h = absurd (b n d (above-none (h .0)) (h .0))
       from (first k e q r b) h = pick (decLt k n) (decLt n k)
         where
           pick : Dec (k < n) → Dec (n < k) → verdict m ≡ refused n d
@@ -185,7 +189,7 @@ module _ (m : List ℤ) where
   accepted-exactly = (to first?, from first?)
     where
       to : First → verdict m ≡ Accepted → (n d : ℕ) → ¬ Row m n d
-      to (none q b g a e f) p = λ n d r. b n d (below-five n d r) r
+      to (none q b g a e f) p = λ n d r. b n d (above-none r) r
       to (first k e q r b) p = absurd (never k e (sym q ∙ p))
 
       from : First → ((n d : ℕ) → ¬ Row m n d) → verdict m ≡ Accepted

@@ -1,0 +1,257 @@
+-- The demands on the skeleton, of every list m, every status buffer st and every budget, in the words of specs/. Each proof cites
+-- the file that has the reason.
+--
+-- What shuts out the four empty programs of the scope paper:
+--   one that refuses always              `refused-exactly`, `unrefused-exactly`, `answer-exactly`
+--   one that calls every edge possible   `done-largest`, `certain-exactly`
+--   one that writes no status            the same, since they speak of the buffer's bytes when the search returns
+--   one that runs to the end under any budget, or invents E   `paused-spent`, `few-examinations`; and `outcomeOf` is the search
+--                                                             step by step
+-- Assumes nothing.
+use mathlib.Core.Path.{_≡_, refl, sym, ap, _∙_, subst}
+use mathlib.Core.Logic.{_↔_, _⊎_, ⊎-elim}
+use mathlib.Core.Bool.{Bool, true, false}
+use mathlib.Core.List.{List}
+use Prim.Native.Nat.{ℕ, _≤_}
+use native.Mathlib.Omega.{arith}
+use lib.ListN.{getD, length, replicate}
+use lib.IntN.{ℤ}
+use Rattle.plane.specs.declared.check.Refusal.{Refusal}
+use Rattle.plane.specs.declared.check.Verdict.{Verdict}
+use Rattle.plane.specs.declared.check.Verdict.the-variants.{Accepted, Refused}
+use Rattle.plane.specs.Marks.{IsMark}
+use Rattle.plane.specs.Pairs.{pairNumber}
+use Rattle.plane.specs.Hull.{innerEdge}
+use Rattle.striking.specs.Status.{remaining}
+use Rattle.striking.specs.Search.{answer8, search, remainingSet}
+use Rattle.striking.specs.Demands as demands
+use Rattle.striking.proofs.Tests.{same-test}
+use Rattle.striking.proofs.Theorems as striking
+use Rattle.skeleton.specs.declared.request.Answer.{Answer}
+use Rattle.skeleton.specs.declared.search.Outcome.{Outcome}
+use Rattle.skeleton.specs.declared.search.Outcome.the-variants.{Done, Paused}
+use Rattle.skeleton.specs.Certificate.{crossing, IsCertificate, HasCertificate, IsFirst, fits, firstCertificate}
+use Rattle.skeleton.specs.declared.certificate.Pick.the-variants.{Nothing, Apexes}
+use Rattle.skeleton.specs.Plate.{pairsOf, plate}
+use Rattle.skeleton.specs.Rule9.{IsPair, Kept, LocallyMinimal, Largest, ample}
+use Rattle.skeleton.specs.Answers.{searchRefusal, answerOf, outcomeAfter, outcomeOf, Unrefused, bytesAfter, statusAfter, byteAfter, remainsAfter}
+use Rattle.skeleton.specs.Table.{SearchRow, RequestRow, Lowest, None, IsAnswer}
+use Rattle.skeleton.proofs.Rule7.{fits-certificate, certificate-fits}
+use Rattle.skeleton.proofs.First.{nothing-none, found-first, first-found, none-nothing}
+use Rattle.skeleton.proofs.Lawful.{lawful}
+use Rattle.skeleton.proofs.Pairs.{number-in, minimal-numbers, largest-pairs}
+use Rattle.skeleton.proofs.Counting.{ample-is}
+use Rattle.skeleton.proofs.Table.{refused-early, accepted-long}
+use Rattle.skeleton.proofs.Answer.{is-answer, the-answer, answer-moved}
+use Rattle.skeleton.proofs.Ended.{status-accepted, status-refused, search-refused, search-unrefused, done-search, paused-search, refused-search}
+use Rattle.skeleton.proofs.Statuses.{ok, free, remains-is, byte-zero, byte-one, byte-two, byte-three, due-pair, answer8-named}
+
+-- ---- rules 7 and 8
+
+module _ (m : List ℤ) (K : ℕ → ℕ → Bool) (p q : ℕ) where
+  -- Rule 7: the test of two marks is the sentence.
+  pub fits-exactly : (r s : ℕ) → IsMark m r → IsMark m s → (fits m K p q r s ≡ true) ↔ IsCertificate m K p q r s
+  fits-exactly r s r-in s-in = (fits-certificate m K p q r s r-in s-in, certificate-fits m K p q)
+
+  -- Rule 8: what is picked is "that with the smallest r, then the smallest s".
+  pub first-exactly : (r s : ℕ) → (firstCertificate m K p q ≡ Apexes r s) ↔ IsFirst m K p q r s
+  first-exactly r s = (found-first m K p q, first-found)
+
+  -- Nothing is picked exactly if there is no certificate.
+  pub nothing-exactly : (firstCertificate m K p q ≡ Nothing) ↔ (HasCertificate m K p q → ⊥)
+  nothing-exactly = (nothing-none m K p q, none-nothing m K p q)
+
+-- ---- the certificate request
+
+-- Each answer is given exactly when the table and rule 8 say: the lowest row that applies, or "hull, not empty, the first
+-- certificate, or none; none exactly if there is none".
+pub answer-exactly : (m : List ℤ) (st : List ℕ) (a b : ℕ) (x : Answer) → (answerOf m st a b ≡ x) ↔ IsAnswer m st a b x
+answer-exactly m st a b x = (λ e. subst (IsAnswer m st a b) e (the-answer m st a b), is-answer m st a b)
+
+-- "Beyond answer 6, the byte of (a, b) itself plays no part."
+pub own-byte :
+    (m : List ℤ) (st st′ : List ℕ) (a b : ℕ) → ((i : ℕ) → (i ≡ pairNumber a b → ⊥) → getD st i 0 ≡ getD st′ i 0) →
+    None (RequestRow m st a b) → None (RequestRow m st′ a b) → answerOf m st a b ≡ answerOf m st′ a b
+own-byte m st st′ a b agree n n′ = sym (is-answer m st′ a b (answer-moved m st st′ a b agree n n′ (the-answer m st a b)))
+
+-- ---- the search
+
+module _ (m : List ℤ) (st : List ℕ) (budget : ℕ) where
+  -- ---- the table
+
+  -- "Given exactly when"; "The lowest number that applies is given".
+  pub refused-exactly : (x : Refusal) → (outcomeOf m st budget ≡ Outcome.Refused x) ↔ Lowest (SearchRow m st budget) x
+  refused-exactly = search-refused m st budget
+
+  -- The search is done or paused exactly if no row applies.
+  pub unrefused-exactly : Unrefused (outcomeOf m st budget) ↔ None (SearchRow m st budget)
+  unrefused-exactly = search-unrefused m st budget
+
+  -- ---- the status buffer
+
+  -- Its length stays.
+  pub status-length : length (statusAfter m st budget) ≡ length st
+  unfolding plate
+  status-length = go (searchRefusal m st) refl
+    where
+      go : (v : Verdict) → searchRefusal m st ≡ v → length (statusAfter m st budget) ≡ length st
+      go (Refused x) e = ap length (status-refused m st budget x e)
+      go Accepted e =
+          ap length (status-accepted m st budget e) ∙ striking.status-length (plate m) (lawful m) budget ∙
+          sym (accepted-long m st e)
+
+  -- "After 1 to 7 the status buffer holds what it held before."
+  pub refused-keeps : (x : Refusal) → outcomeOf m st budget ≡ Outcome.Refused x → x .number ≤ 7 → statusAfter m st budget ≡ st
+  refused-keeps x e l =
+      ⊎-elim (λ r. status-refused m st budget x r) (λ r. let n = r .1 in absurd (let z : ⊥ = omega arith in z))
+      (refused-search m st budget x e)
+
+  -- Of an answer 8:
+  module _ (x : Refusal) (e : outcomeOf m st budget ≡ Outcome.Refused x) (n : x .number ≡ 8) where
+    search8 : (searchRefusal m st ≡ Accepted) × (x .number ≡ 8) × (search (plate m) budget .outcome ≡ answer8 (x .detail))
+    search8 =
+        ⊎-elim (λ r. let l = refused-early m st x r in absurd (let z : ⊥ = omega arith in z)) (λ r. r)
+        (refused-search m st budget x e)
+
+    -- "After 8 every byte of it is 255."
+    pub answer8-bytes : statusAfter m st budget ≡ replicate (length st) 255
+    unfolding plate
+    answer8-bytes =
+        status-accepted m st budget (search8 .0) ∙
+        striking.answer8-bytes (plate m) (lawful m) budget (x .detail) (search8 .2) ∙
+        ap (λ (k : ℕ). replicate k 255) (sym (accepted-long m st (search8 .0)))
+
+    -- Its detail is the number of an inner edge that has no certificate and is "crossed by nothing remaining".
+    pub answer8-names :
+        (a : ℕ) × (b : ℕ) × IsPair m a b × (x .detail ≡ pairNumber a b) × (innerEdge m a b ≡ true) ×
+        (HasCertificate m (pairsOf (remainingSet (plate m) budget)) a b → ⊥) ×
+        ((c d : ℕ) → Kept m (pairsOf (remainingSet (plate m) budget)) c d → crossing m a b c d ≡ false)
+    answer8-names = answer8-named m budget (x .detail) (search8 .2)
+
+  -- Of a search that is not refused:
+  module _ (u : Unrefused (outcomeOf m st budget)) where
+    -- The bytes that are not 0 are those of the edges that remain.
+    pub remaining-exactly : remainsAfter m st budget ≡ pairsOf (remainingSet (plate m) budget)
+    remaining-exactly = remains-is m st budget u
+
+    module _ (a b : ℕ) (p : IsPair m a b) where
+      -- There are three statuses.
+      pub three-bytes : (byteAfter m st budget a b ≡ 0) ⊎ (byteAfter m st budget a b ≡ 1) ⊎ (byteAfter m st budget a b ≡ 2)
+      three-bytes = byte-three m st budget u a b
+
+      -- "not remaining is 0;
+      pub impossible-exactly : (byteAfter m st budget a b ≡ 0) ↔ (remainsAfter m st budget a b ≡ false)
+      impossible-exactly = byte-zero m st budget u a b
+
+      -- remaining and crossed by no other remaining edge is 2; (that it is another needs no word, since no edge crosses itself)
+      pub certain-exactly :
+          (byteAfter m st budget a b ≡ 2) ↔
+          ((remainsAfter m st budget a b ≡ true) ×
+          ((c d : ℕ) → Kept m (remainsAfter m st budget) c d → crossing m a b c d ≡ false))
+      certain-exactly = byte-two m st budget u a b p
+
+      -- any other is 1."
+      pub possible-exactly :
+          (byteAfter m st budget a b ≡ 1) ↔
+          ((remainsAfter m st budget a b ≡ true) ×
+          ((c : ℕ) × (d : ℕ) × Kept m (remainsAfter m st budget) c d × (crossing m a b c d ≡ true)))
+      possible-exactly = byte-one m st budget u a b p
+
+  -- ---- demand 2
+
+  -- "At done, the remaining set is the largest set that holds the hull edges and in which each inner edge has a certificate."
+  pub done-largest : (e : ℕ) → outcomeOf m st budget ≡ Done e → Largest m (remainsAfter m st budget)
+  done-largest e q =
+      let d = done-search m st budget e q in
+      largest-pairs
+      (subst (λ (s : List ℕ). demands.Largest (plate m) (remaining s)) (sym (status-accepted m st budget (d .0)))
+      (striking.done-largest (plate m) (lawful m) budget (d .1)))
+
+  -- ---- demand 3
+
+  -- Where the search was made, under whatever budget,
+  module _ (made : searchRefusal m st ≡ Accepted) (K : ℕ → ℕ → Bool) (t : LocallyMinimal m K) (a b : ℕ) (p : IsPair m a b) where
+    -- a 2 is in every locally minimal triangulation
+    pub certain-in-every : byteAfter m st budget a b ≡ 2 → K a b ≡ true
+    certain-in-every h =
+        sym (number-in m K a b p) ∙
+        striking.certain-in-every (plate m) (lawful m) budget (minimal-numbers t) (pairNumber a b)
+        (rw (status-accepted m st budget made) at h)
+
+    -- and a 0 in none.
+    pub impossible-in-none : byteAfter m st budget a b ≡ 0 → K a b ≡ false
+    impossible-in-none h =
+        sym (number-in m K a b p) ∙
+        striking.impossible-in-none (plate m) (lawful m) budget (minimal-numbers t) (pairNumber a b)
+        (rw (status-accepted m st budget made) at h)
+
+  -- "With m inner edges a search ends within m(m+1)/2 examinations"; and E, done or paused, is within the budget.
+  pub few-examinations :
+      (e : ℕ) → (outcomeOf m st budget ≡ Done e) ⊎ (outcomeOf m st budget ≡ Paused e) → (e ≤ ample m) × (e ≤ budget)
+  few-examinations e o =
+      let i = ⊎-elim (λ q. done-search m st budget e q .2) (λ q. paused-search m st budget e q .2) o in
+      let l = striking.few-examinations (plate m) (lawful m) budget in
+      let k = striking.within-budget (plate m) (lawful m) budget in
+      let s = ample-is m in
+      (omega arith, omega arith)
+
+  -- A budget of at least m(m+1)/2 never pauses.
+  pub never-pauses : ample m ≤ budget → (e : ℕ) → outcomeOf m st budget ≡ Paused e → ⊥
+  never-pauses l e q =
+      striking.never-pauses (plate m) (lawful m) budget (subst (λ (k : ℕ). k ≤ budget) (ample-is m) l)
+      (paused-search m st budget e q .1)
+
+  -- "The search pauses when an examination is due and the budget is spent": E is the budget, and some inner edge remains.
+  pub paused-spent :
+      (e : ℕ) → outcomeOf m st budget ≡ Paused e →
+      (e ≡ budget) × ((a : ℕ) × (b : ℕ) × Kept m (remainsAfter m st budget) a b × (innerEdge m a b ≡ true))
+  paused-spent e q =
+      let d = paused-search m st budget e q in
+      let r = striking.paused-due (plate m) (lawful m) budget (d .1) in
+      let u : Unrefused (outcomeOf m st budget) = λ x f. (let z : _≡_ {A = ℕ} 0 1 = cc in absurd (omega arith)) in
+      let i = d .2 in
+      let b = r .0 in
+      (omega arith, subst Due (sym (remains-is m st budget u)) (due-pair m budget (r .1 .0) (r .1 .2)))
+    where
+      Due : (ℕ → ℕ → Bool) → Type 0
+      Due K = (a : ℕ) × (b : ℕ) × Kept m K a b × (innerEdge m a b ≡ true)
+
+-- Of two budgets:
+module _ (m : List ℤ) (st : List ℕ) (budget budget′ : ℕ) (l : budget ≤ budget′) where
+  -- Where neither gives a refusal, the larger keeps
+  module _ (u : Unrefused (outcomeOf m st budget)) (u′ : Unrefused (outcomeOf m st budget′)) (a b : ℕ) where
+    abbrev i : ℕ
+    i = pairNumber a b
+
+    -- every 2
+    pub certain-stays : byteAfter m st budget a b ≡ 2 → byteAfter m st budget′ a b ≡ 2
+    certain-stays h =
+        rw (status-accepted m st budget′ (ok m st budget′ u′))
+        (striking.certain-stays (plate m) (lawful m) budget budget′ l (free m st budget u) (free m st budget′ u′) i
+        (rw (status-accepted m st budget (ok m st budget u)) at h))
+
+    -- and every 0.
+    pub impossible-stays : byteAfter m st budget a b ≡ 0 → byteAfter m st budget′ a b ≡ 0
+    impossible-stays h =
+        rw (status-accepted m st budget′ (ok m st budget′ u′))
+        (striking.impossible-stays (plate m) (lawful m) budget budget′ l (free m st budget u) (free m st budget′ u′) i
+        (rw (status-accepted m st budget (ok m st budget u)) at h))
+
+  -- A search that was done is done under every larger budget, after as many examinations and with the same bytes.
+  pub done-stays :
+      (e : ℕ) → outcomeOf m st budget ≡ Done e →
+      (outcomeOf m st budget′ ≡ Done e) × (statusAfter m st budget′ ≡ statusAfter m st budget)
+  unfolding outcomeOf statusAfter
+  done-stays e q =
+      let d = done-search m st budget e q .1 in
+      let s =
+      striking.unpaused-stays (plate m) (lawful m) budget budget′ l
+      (λ f. let z : _≡_ {A = ℕ} 0 1 = cc (d, f) in absurd (omega arith)) in
+      (sym (ap (outcomeAfter (searchRefusal m st)) s) ∙ q, sym (ap (bytesAfter (searchRefusal m st) st) s))
+
+-- There is only one largest set.
+pub one-largest :
+    {m : List ℤ} {K K′ : ℕ → ℕ → Bool} → Largest m K → Largest m K′ → (a b : ℕ) → IsPair m a b → K a b ≡ K′ a b
+one-largest {m} {K} {K′} l l′ a b p =
+    same-test (K a b) (K′ a b) (λ h. l′ .largest K (l .supported) a b (record { pair = p; kept = h }))
+    (λ h. l .largest K′ (l′ .supported) a b (record { pair = p; kept = h }))

@@ -1,0 +1,378 @@
+// The search, step by step.
+ghost use mathlib.Core.Path.{_≡_};
+ghost use mathlib.Core.Bool.{true, false};
+ghost use Prim.Native.Nat.{suc, _+_, _^_, _<_, _≤_};
+ghost use lib.ListN.{length, set, replicate};
+ghost use Rattle.plane.specs.Marks.{Plate, IsMark, count};
+ghost use Rattle.plane.specs.Pairs.{pairCount, pairNumber, pairAt};
+ghost use Rattle.plane.specs.Edge.{emptyEdge};
+ghost use Rattle.plane.specs.Hull.{innerEdge};
+ghost use Rattle.plane.specs.declared.check.Verdict.{Verdict};
+ghost use Rattle.striking.specs.System.{due};
+ghost use Rattle.striking.specs.Status.{remaining, allEdges, statusByte, statuses};
+ghost use Rattle.striking.specs.Search.{going, examine, visit, visits, searchFrom, bytesAt, search};
+ghost use Rattle.masks.specs.Table.{Table, Filled};
+ghost use Rattle.skeleton.specs.Plate.{edgesOf, plate};
+ghost use Rattle.skeleton.specs.Rows.{Rows, Clean};
+ghost use Rattle.skeleton.specs.Run.{edgeByte, outcomeBy, asState, asFinal, Ready};
+ghost use Rattle.skeleton.specs.Answers.{bufferRow, searchRefusal, told, outcomeOf, statusAfter};
+use super::certificate::Pick;
+use super::certificate::first_certificate;
+use super::cross::is_crossed;
+use super::rows::fill_rows;
+use super::rows::part;
+use masks::sets::is_none;
+use masks::table::left_set;
+use masks::table::store_pair;
+use plane::check::Refusal;
+use plane::check::Verdict;
+use plane::check::check_list;
+use plane::hull::Kind;
+use plane::marks::count;
+use plane::pairs::Pair;
+use plane::pairs::next_pair;
+use plane::pairs::pair_count;
+
+pub enum Outcome {
+    // Rows 1 to 5 and 8 of the table.
+    Refused(Refusal),
+    // The search ended, after so many examinations.
+    Done(u32),
+    // An examination was due and the budget was spent, after so many.
+    Paused(u32),
+}
+
+// ---- the start: all empty edges
+
+fn edge_byte(k: Kind) -> u8
+    ensures byte { λ r. ⌜ r ≡ edgeByte k ⌝ }
+{
+    match k {
+        Kind::Blocked => 0,
+        Kind::Hull => 1,
+        Kind::Inner => 1,
+    }
+}
+
+// Writes 1 for each empty edge and 0 for any other pair, and fills the table.
+pub fn mark_edges(m: &[i32], st: &mut [u8], t: &mut [u64])
+    requires { ⌜ Plate (now m) ⌝ }
+    requires { ⌜ length (now st) ≡ pairCount (count (now m)) ⌝ }
+    requires { ⌜ Filled (now m) (now t) 0 ⌝ }
+    ensures edges { λ r. ⌜ now (st .exit) ≡ allEdges (plate (now (m .entry))) ⌝ }
+    ensures filled { λ r. ⌜ Table (now (m .entry)) (now (t .exit)) ⌝ }
+{
+    let mut p = Pair { a: 0, b: 1 };
+    let mut i = 0;
+    while i < st.len() {
+        let a = p.a;
+        let b = p.b;
+        let x = edge_byte(store_pair(m, t, a, b));
+        st[i] = x;
+        p = next_pair(p);
+        i += 1;
+    }
+}
+
+// ---- a round
+
+// How far a search is.
+pub enum Halt {
+    Going,
+    Finished,
+    Spent,
+    Stuck(usize),
+}
+
+// How far it is, whether this round has struck something, and the examinations made. What remains is in the status bytes.
+pub struct Run {
+    pub halt: Halt,
+    pub struck: bool,
+    pub exams: u32,
+}
+
+// Whether the empty edge (a, b) is an inner edge.
+fn is_inner(m: &[i32], t: &[u64], a: usize, b: usize) -> bool
+    requires { ⌜ Table (now m) (now t) ⌝ }
+    requires { ⌜ IsMark (now m) a ⌝ }
+    requires { ⌜ IsMark (now m) b ⌝ }
+    requires { ⌜ count (now m) ≤ 128 ⌝ }
+    requires { ⌜ emptyEdge (now m) a b ≡ true ⌝ }
+    ensures inner { λ r. ⌜ r ≡ innerEdge (now (m .entry)) a b ⌝ }
+{
+    if is_none(left_set(m, t, a, b)) {
+        return false;
+    }
+    !is_none(left_set(m, t, b, a))
+}
+
+// Whether the pair (a, b), whose number is i, has to be examined.
+fn is_due(m: &[i32], st: &[u8], t: &[u64], a: usize, b: usize, i: usize) -> bool
+    requires { ⌜ Plate (now m) ⌝ }
+    requires { ⌜ Clean (now m) (now st) ⌝ }
+    requires { ⌜ Table (now m) (now t) ⌝ }
+    requires { ⌜ a < b ⌝ }
+    requires { ⌜ IsMark (now m) b ⌝ }
+    requires { ⌜ i ≡ pairNumber a b ⌝ }
+    requires { ⌜ i < length (now st) ⌝ }
+    ensures due { λ r. ⌜ r ≡ due (plate (now (m .entry))) (remaining (now (st .entry))) i ⌝ }
+{
+    if st[i] == 0 {
+        return false;
+    }
+    is_inner(m, t, a, b)
+}
+
+// Examines the edge (a, b), whose number is i.
+fn examine(
+    m: &[i32],
+    st: &mut [u8],
+    t: &[u64],
+    d: &mut [u64],
+    a: usize,
+    b: usize,
+    i: usize,
+    struck: bool,
+    exams: u32,
+) -> Run
+    requires { ⌜ Ready (now m) (now st) (now t) (now d) ⌝ }
+    requires { ⌜ a < b ⌝ }
+    requires { ⌜ IsMark (now m) b ⌝ }
+    requires { ⌜ i ≡ pairNumber a b ⌝ }
+    requires { ⌜ emptyEdge (now m) a b ≡ true ⌝ }
+    requires { ⌜ exams + 1 < 2 ^ 32 ⌝ }
+    ensures examined { λ r. ⌜ asState r (now (st .exit)) ≡ examine (plate (now (m .entry))) struck exams (now (st .entry)) i ⌝ }
+    ensures ready { λ r. ⌜ Ready (now (m .entry)) (now (st .exit)) (now (t .entry)) (now (d .exit)) ⌝ }
+{
+    let c = first_certificate(m, &*st, t, &*d, a, b);
+    let Pick::Nothing = c else {
+        return Run {
+            halt: Halt::Going,
+            struck: struck,
+            exams: exams + 1,
+        };
+    };
+    if !is_crossed(m, &*st, t, &*d, a, b) {
+        return Run {
+            halt: Halt::Stuck(i),
+            struck: struck,
+            exams: exams + 1,
+        };
+    }
+    part(m, &*st, d, a, b);
+    st[i] = 0;
+    Run {
+        halt: Halt::Going,
+        struck: true,
+        exams: exams + 1,
+    }
+}
+
+// The turn of the pair (a, b), whose number is i.
+fn visit(
+    m: &[i32],
+    st: &mut [u8],
+    t: &[u64],
+    d: &mut [u64],
+    budget: u32,
+    a: usize,
+    b: usize,
+    i: usize,
+    run: Run,
+) -> Run
+    requires { ⌜ Ready (now m) (now st) (now t) (now d) ⌝ }
+    requires { ⌜ a < b ⌝ }
+    requires { ⌜ IsMark (now m) b ⌝ }
+    requires { ⌜ i ≡ pairNumber a b ⌝ }
+    ensures visited { λ r. ⌜ asState r (now (st .exit)) ≡ visit (plate (now (m .entry))) budget i (asState run (now (st .entry))) ⌝ }
+    ensures ready { λ r. ⌜ Ready (now (m .entry)) (now (st .exit)) (now (t .entry)) (now (d .exit)) ⌝ }
+{
+    let h = run.halt;
+    let Halt::Going = h else {
+        return run;
+    };
+    if !is_due(m, &*st, t, a, b, i) {
+        return run;
+    }
+    let struck = run.struck;
+    let exams = run.exams;
+    if exams < budget {
+        return examine(m, st, t, d, a, b, i, struck, exams);
+    }
+    Run {
+        halt: Halt::Spent,
+        struck: struck,
+        exams: exams,
+    }
+}
+
+// The turns of all pairs, in pair order.
+fn round(m: &[i32], st: &mut [u8], t: &[u64], d: &mut [u64], budget: u32, exams: u32) -> Run
+    requires { ⌜ Ready (now m) (now st) (now t) (now d) ⌝ }
+    ensures visited { λ r. ⌜ asState r (now (st .exit)) ≡ visits (plate (now (m .entry))) budget (pairCount (count (now (m .entry)))) (going false exams (now (st .entry))) ⌝ }
+    ensures ready { λ r. ⌜ Ready (now (m .entry)) (now (st .exit)) (now (t .entry)) (now (d .exit)) ⌝ }
+{
+    let mut run = Run {
+        halt: Halt::Going,
+        struck: false,
+        exams: exams,
+    };
+    let mut p = Pair { a: 0, b: 1 };
+    let mut i = 0;
+    while i < st.len() {
+        let a = p.a;
+        let b = p.b;
+        run = visit(m, st, t, d, budget, a, b, i, run);
+        p = next_pair(p);
+        i += 1;
+    }
+    run
+}
+
+// ---- the rounds
+
+// Rounds, until one strikes nothing, the budget is spent, or an edge is stuck.
+fn rounds(m: &[i32], st: &mut [u8], t: &[u64], d: &mut [u64], budget: u32) -> Run
+    requires { ⌜ Ready (now m) (now st) (now t) (now d) ⌝ }
+    ensures searched { λ r. ⌜ asFinal r (now (st .exit)) ≡ searchFrom (plate (now (m .entry))) budget 0 (now (st .entry)) ⌝ }
+    ensures ready { λ r. ⌜ Ready (now (m .entry)) (now (st .exit)) (now (t .entry)) (now (d .exit)) ⌝ }
+{
+    let mut exams: u32 = 0;
+    loop {
+        let run = round(m, st, t, d, budget, exams);
+        let h = run.halt;
+        let Halt::Going = h else {
+            return run;
+        };
+        let made = run.exams;
+        if !run.struck {
+            return Run {
+                halt: Halt::Finished,
+                struck: false,
+                exams: made,
+            };
+        }
+        exams = made;
+    }
+}
+
+// ---- the end
+
+// The status byte of the pair (a, b), whose number is i.
+fn status_byte(m: &[i32], st: &[u8], t: &[u64], d: &[u64], a: usize, b: usize, i: usize) -> u8
+    requires { ⌜ Ready (now m) (now st) (now t) (now d) ⌝ }
+    requires { ⌜ a < b ⌝ }
+    requires { ⌜ IsMark (now m) b ⌝ }
+    requires { ⌜ i ≡ pairNumber a b ⌝ }
+    ensures status { λ r. ⌜ r ≡ statusByte (plate (now (m .entry))) (remaining (now (st .entry))) i ⌝ }
+{
+    if st[i] == 0 {
+        return 0;
+    }
+    if is_crossed(m, st, t, d, a, b) {
+        return 1;
+    }
+    2
+}
+
+// Writes each pair's status over what remains.
+fn show(m: &[i32], st: &mut [u8], t: &[u64], d: &[u64])
+    requires { ⌜ Ready (now m) (now st) (now t) (now d) ⌝ }
+    ensures shown { λ r. ⌜ now (st .exit) ≡ statuses (plate (now (m .entry))) (remaining (now (st .entry))) ⌝ }
+{
+    let mut p = Pair { a: 0, b: 1 };
+    let mut i = 0;
+    while i < st.len() {
+        let a = p.a;
+        let b = p.b;
+        let x = status_byte(m, &*st, t, d, a, b, i);
+        st[i] = x;
+        p = next_pair(p);
+        i += 1;
+    }
+}
+
+fn blank(st: &mut [u8])
+    ensures blank { λ r. ⌜ now (st .exit) ≡ replicate (length (now (st .entry))) 255 ⌝ }
+{
+    let mut i = 0;
+    while i < st.len() {
+        st[i] = 255;
+        i += 1;
+    }
+}
+
+// Row 5 of the table.
+pub fn check_buffer(m: &[i32], st: &[u8]) -> Verdict
+    requires { ⌜ count (now m) ≤ 128 ⌝ }
+    ensures answered { λ r. ⌜ r ≡ bufferRow (now (m .entry)) (now (st .entry)) ⌝ }
+{
+    let k = pair_count(count(m));
+    if st.len() == k {
+        return Verdict::Accepted;
+    }
+    Verdict::Refused(Refusal {
+        number: 5,
+        detail: k,
+    })
+}
+
+// Rows 1 to 5 of the table.
+pub fn check_search(m: &[i32], st: &[u8]) -> Verdict
+    ensures answered { λ r. ⌜ r ≡ searchRefusal (now (m .entry)) (now (st .entry)) ⌝ }
+{
+    let v = check_list(m);
+    let Verdict::Accepted = v else {
+        return v;
+    };
+    check_buffer(m, st)
+}
+
+// Writes the statuses, or 255 throughout after answer 8, and tells how the search ended.
+fn finish(m: &[i32], st: &mut [u8], t: &[u64], d: &[u64], run: Run) -> Outcome
+    requires { ⌜ Ready (now m) (now st) (now t) (now d) ⌝ }
+    ensures outcome { λ r. ⌜ r ≡ told (outcomeBy (run .halt)) (run .exams) ⌝ }
+    ensures status { λ r. ⌜ now (st .exit) ≡ bytesAt (plate (now (m .entry))) (outcomeBy (run .halt)) (now (st .entry)) ⌝ }
+{
+    let exams = run.exams;
+    let h = run.halt;
+    if let Halt::Stuck(i) = h {
+        blank(st);
+        return Outcome::Refused(Refusal {
+            number: 8,
+            detail: i,
+        });
+    }
+    show(m, st, t, d);
+    if let Halt::Finished = h {
+        return Outcome::Done(exams);
+    }
+    Outcome::Paused(exams)
+}
+
+// The search of an accepted plate.
+fn search_plate(m: &[i32], st: &mut [u8], budget: u32) -> Outcome
+    requires { ⌜ Plate (now m) ⌝ }
+    requires { ⌜ length (now st) ≡ pairCount (count (now m)) ⌝ }
+    ensures outcome { λ r. ⌜ r ≡ told (search (plate (now (m .entry))) budget .outcome) (search (plate (now (m .entry))) budget .examinations) ⌝ }
+    ensures status { λ r. ⌜ now (st .exit) ≡ search (plate (now (m .entry))) budget .status ⌝ }
+{
+    let mut t = [0u64; 32768];
+    let mut d = [0u64; 256];
+    mark_edges(m, st, &mut t);
+    fill_rows(m, &*st, &mut d);
+    let run = rounds(m, st, &t, &mut d, budget);
+    finish(m, st, &t, &d, run)
+}
+
+// Searches the plate m within the budget and writes the status of each pair. Answers every list, buffer and budget.
+pub fn search(m: &[i32], st: &mut [u8], budget: u32) -> Outcome
+    ensures outcome { λ r. ⌜ r ≡ outcomeOf (now (m .entry)) (now (st .entry)) budget ⌝ }
+    ensures status { λ r. ⌜ now (st .exit) ≡ statusAfter (now (m .entry)) (now (st .entry)) budget ⌝ }
+{
+    let v = check_search(m, &*st);
+    match v {
+        Verdict::Refused(f) => Outcome::Refused(f),
+        Verdict::Accepted => search_plate(m, st, budget),
+    }
+}

@@ -1,0 +1,17 @@
+pub mod Kite
+pub mod Tests
+pub mod Below
+pub mod Counting
+pub mod Sums
+pub mod Remaining
+pub mod System
+pub mod Strikes
+pub mod Steps
+pub mod Invariants
+pub mod Runs
+pub mod Examinations
+pub mod Budgets
+pub mod Bytes
+pub mod AnyOrder
+pub mod Sound
+pub mod Theorems
