@@ -1,0 +1,44 @@
+-- What the listing program answers: from the bytes that it reads to those that it writes.
+--   statusRoom m             how many of the status bytes a list is lent
+--   marksText m st budget    the text for the list m, where the status bytes st are lent
+--   listText m budget        the same, of bytes that are "all cleared before a run"
+--   answerText t             the text that answers the text t
+use mathlib.Core.Bool.{true, false, cond}
+use mathlib.Core.List.{List}
+use Prim.Native.Nat.{ℕ}
+use lib.Dec.{ltb}
+use lib.IntN.{ℤ}
+use lib.ListN.{replicate}
+use Rattle.plane.specs.Marks.{count}
+use Rattle.plane.specs.Pairs.{pairCount}
+use Rattle.skeleton.specs.declared.search.Outcome.{Outcome}
+use Rattle.skeleton.specs.declared.search.Outcome.the-variants.{Refused, Done, Paused}
+use Rattle.skeleton.specs.Answers.{outcomeOf, statusAfter}
+use Rattle.listing.specs.declared.read.Reading.{Reading}
+use Rattle.listing.specs.declared.read.Reading.the-variants as reading
+use Rattle.listing.specs.Read.{numbersOf, readingOf}
+use Rattle.listing.specs.Listing.{refusedText, listingText}
+
+-- "Its length is exactly n(n-1)/2": a list of more than 128 marks is refused before its length counts
+unfoldable pub statusRoom : List ℤ → ℕ
+statusRoom m = cond (ltb 128 (count m)) 0 (pairCount (count m))
+
+unfoldable pub textBy : Outcome → List ℕ → ℕ → List ℕ
+textBy (Refused x) st n = refusedText (x .number) (x .detail)
+textBy (Done e) st n = listingText true e st n
+textBy (Paused e) st n = listingText false e st n
+
+unfoldable pub marksText : List ℤ → List ℕ → ℕ → List ℕ
+marksText m st budget = textBy (outcomeOf m st budget) (statusAfter m st budget) (count m)
+
+-- "The program keeps 8,128 status bytes, all cleared before a run."
+unfoldable pub listText : List ℤ → ℕ → List ℕ
+listText m budget = marksText m (replicate (statusRoom m) 0) budget
+
+-- "the program tests 9 before all others"
+unfoldable pub textFor : Reading → List ℤ → List ℕ
+textFor (reading.Refused d) m = refusedText 9 d
+textFor (reading.Read budget n) m = listText m budget
+
+unfoldable pub answerText : List ℕ → List ℕ
+answerText t = textFor (readingOf t) (numbersOf t)
