@@ -390,6 +390,8 @@ fn show_outcome(o: Outcome) {
         Outcome::Refused(f) => {
             io::write_all(STDOUT_FILENO, b"refused ");
             io::print_decimal(STDOUT_FILENO, f.number as u64);
+            io::write_all(STDOUT_FILENO, b" ");
+            io::print_decimal(STDOUT_FILENO, f.detail as u64);
         }
         Outcome::Done(e) => {
             io::write_all(STDOUT_FILENO, b"done ");
@@ -436,10 +438,18 @@ fn show_plate(row: usize)
     show_search(&marks[..n * 2], &mut status[..p], budget);
 }
 
+// A list of one number, which no text can give: answer 1, and the lent byte stays.
+fn show_odd() {
+    let one = [5i32; 1];
+    let mut status = [7u8; 1];
+    show_search(&one, &mut status, 1000);
+}
+
 fn main() {
     let mut k = 0;
     while k < 13 {
         show_plate(k * 24);
         k += 1;
     }
+    show_odd();
 }

@@ -28,6 +28,9 @@ loop-less c = search needs
 loop-again : tie.Need-loop-again Inv-loop μ-loop
 loop-again c = search needs
 
+show-odd-requires : tie.Need-show-odd-requires Inv-loop μ-loop
+show-odd-requires c κs = search needs
+
 returns : tie.Need-returns Inv-loop μ-loop
 returns c = search needs
 
@@ -43,4 +46,5 @@ main-spec =
     add-k
     loop-less
     loop-again
+    show-odd-requires
     returns)
