@@ -45,7 +45,7 @@ pub fn list(m: &[i32], st: &mut [u8], budget: u32, out: &mut [u8]) -> usize
 }
 
 // The same, with status bytes that are all cleared; a part of them is lent.
-pub fn list_cleared(m: &[i32], st: &mut [u8], budget: u32, out: &mut [u8]) -> usize
+fn list_cleared(m: &[i32], st: &mut [u8], budget: u32, out: &mut [u8]) -> usize
     requires { ⌜ now st ≡ replicate 8128 0 ⌝ }
     requires { ⌜ 138240 ≤ length (now out) ⌝ }
     ensures counted { λ r. ⌜ r ≡ length (listText (now (m .entry)) budget) ⌝ }
