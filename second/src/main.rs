@@ -1,5 +1,8 @@
 //! The commands of the second program.
 
+#[cfg(feature = "driver")]
+mod linked;
+
 use std::io::{self, Read, Write};
 use std::process::ExitCode;
 use std::time::{SystemTime, UNIX_EPOCH};
@@ -27,6 +30,13 @@ usage:
   second plate KIND N SEED [BUDGET]
       writes a plate; KIND is one of uniform, grid, jittered, circle, lines,
       cluster, tiny, extreme, parabola
+built with the feature `driver`, which links the library:
+  second inside [--seed S] [--plates N]
+      compares the library's calls with the own ones, in process
+  second bench [FOLDER]
+      times of a search of each plate, and the stack that each call takes
+  second once PLATE driver|plain
+      searches a plate once, by the library or by the own search
 ";
 
 /// A command that was not understood.
@@ -52,6 +62,9 @@ fn run(arguments: &[&str]) -> Ended {
         ["averages", options @ ..] => run_averages(options),
         ["plate", kind, n, seed] => run_plate(kind, n, seed, "-"),
         ["plate", kind, n, seed, budget] => run_plate(kind, n, seed, budget),
+        #[cfg(feature = "driver")]
+        _ => linked::run(arguments),
+        #[cfg(not(feature = "driver"))]
         _ => Err(Misused),
     }
 }

@@ -225,13 +225,24 @@ pub fn random_plate(random: &mut Random) -> Vec<u8> {
     if random.one_in(50) {
         return crowd(random);
     }
+    let marks = random_marks(random_size, random);
+    plate_text(&random_budget(&marks, random), &marks)
+}
+
+/// Marks of any kind, now and then with a number out of range or equal marks.
+/// Large plates are rare, for comparisons that start no process for each.
+pub fn quick_marks(random: &mut Random) -> Vec<Mark> {
+    random_marks(quick_size, random)
+}
+
+fn random_marks(size: fn(&mut Random) -> usize, random: &mut Random) -> Vec<Mark> {
     let (_, kind) = random.pick(&KINDS);
-    let n = random_size(random);
+    let n = size(random);
     let mut marks = marks(kind, n, random);
     if random.one_in(20) {
         spoil(&mut marks, random);
     }
-    plate_text(&random_budget(&marks, random), &marks)
+    marks
 }
 
 /// A small plate as listing text, to be damaged: what damage leaves of a plate
@@ -252,6 +263,15 @@ fn random_size(random: &mut Random) -> usize {
         97 => MOST_MARKS,
         98 => MOST_MARKS + 1,
         _ => MOST_MARKS + 1 + random.below(200),
+    }
+}
+
+/// As above, but few of the plates that take long to search: the larger, the
+/// fewer.
+fn quick_size(random: &mut Random) -> usize {
+    match random_size(random) {
+        n @ 31..=MOST_MARKS if !random.one_in(n / 4) => random.below(31),
+        n => n,
     }
 }
 
@@ -304,10 +324,14 @@ fn plain_budget(random: &mut Random) -> String {
     }
 }
 
+/// The marks as a list of numbers.
+pub fn list_of(marks: &[Mark]) -> Vec<i32> {
+    marks.iter().flat_map(|mark| [mark.x as i32, mark.y as i32]).collect()
+}
+
 /// The examinations of an ample search; 0 for marks that are refused.
 fn end_of_search(marks: &[Mark]) -> u32 {
-    let list: Vec<i32> = marks.iter().flat_map(|mark| [mark.x as i32, mark.y as i32]).collect();
-    marks_of_list(&list)
+    marks_of_list(&list_of(marks))
         .and_then(|marks| search(&Plane::new(&marks), u32::MAX))
         .map_or(0, |outcome| outcome.examinations)
 }
@@ -333,8 +357,7 @@ mod tests {
             for n in [0, 1, 2, 3, 7, 30, 100, 128] {
                 let marks = marks(kind, n, &mut random);
                 assert_eq!(marks.len(), n, "{name}");
-                let list: Vec<i32> = marks.iter().flat_map(|mark| [mark.x as i32, mark.y as i32]).collect();
-                assert!(marks_of_list(&list).is_ok(), "{name}");
+                assert!(marks_of_list(&list_of(&marks)).is_ok(), "{name}");
             }
         }
     }
