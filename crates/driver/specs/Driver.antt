@@ -1,0 +1,85 @@
+-- What each function of include/skeleton.h answers: the number that it returns, and what it leaves in each lent buffer.
+--   version                  the version of the interface
+--   Told, told number numbers  a reply: the status number, and the numbers for the result buffer
+--   returned result x        the number returned, where the reply is x and the result buffer holds `result`
+--   written result x         the result buffer on return
+--   searchReply, certificateReply, pairReply, longestBudgetReply   the reply of each function
+--   searchStatus             the status buffer when the search returns
+--   longestBudget n          the longest budget that a plate of n marks can need
+use mathlib.Core.Bool.{Bool, false, cond}
+use mathlib.Core.List.{List, [], _∷_, _++_}
+use Prim.Native.Nat.{ℕ, _+_, _*_, _/_}
+use lib.Dec.{ltb}
+use lib.IntN.{ℤ}
+use lib.ListN.{length, drop}
+use Rattle.plane.specs.Pairs.{pairCount, pairNumber}
+use Rattle.skeleton.specs.declared.certificate.Certificate.{Certificate}
+use Rattle.skeleton.specs.declared.request.Reply.{Reply}
+use Rattle.skeleton.specs.declared.request.Reply.the-variants.{Hull, NotEmpty, Certified, Uncertified}
+use Rattle.skeleton.specs.declared.request.Answer.{Answer}
+use Rattle.skeleton.specs.declared.search.Outcome.{Outcome}
+use Rattle.skeleton.specs.declared.search.Outcome.the-variants.{Done, Paused}
+use Rattle.skeleton.specs.Answers.{answerOf, outcomeOf, statusAfter}
+
+abbrev pub version : ℕ
+version = 1
+
+-- ---- a reply, and how it reaches the caller
+pub record Told : Type 0 where
+  pub number : ℕ
+  pub numbers : List ℕ
+
+abbrev pub told : ℕ → List ℕ → Told
+told number numbers = record { number = number; numbers = numbers }
+
+-- 100: the result buffer is shorter than the reply
+unfoldable pub returned : List ℕ → Told → ℕ
+returned result x = cond (ltb (length result) (length (x .numbers))) 100 (x .number)
+
+-- The numbers stand at its start, and what stands behind stays; a buffer that is too short is left as it is.
+unfoldable pub written : List ℕ → Told → List ℕ
+written result x =
+    cond (ltb (length result) (length (x .numbers))) result (x .numbers ++ drop (length (x .numbers)) result)
+
+-- ---- the search: 0 done or 1 paused, and the examinations; of a refusal its detail, and 0
+unfoldable pub outcomeReply : Outcome → Told
+outcomeReply (Outcome.Refused x) = told (x .number) (x .detail ∷ 0 ∷ [])
+outcomeReply (Done e) = told 0 (0 ∷ e ∷ [])
+outcomeReply (Paused e) = told 0 (1 ∷ e ∷ [])
+
+unfoldable pub searchReply : List ℤ → List ℕ → ℕ → Told
+searchReply m st budget = outcomeReply (outcomeOf m st budget)
+
+-- Where the result buffer is too short there is no search.
+unfoldable pub searchStatus : List ℕ → List ℤ → List ℕ → ℕ → List ℕ
+searchStatus result m st budget = cond (ltb (length result) 2) st (statusAfter m st budget)
+
+-- ---- the certificate request: 0 hull, 1 not empty, 2 certified, 3 none, then the certificate's apexes r and s and the numbers of its
+-- sides pr, qr, ps, qs, which are all 0 unless it is 2; of a refusal its detail, and six times 0
+unfoldable pub certificateNumbers : ℕ → Certificate → List ℕ
+certificateNumbers first c = first ∷ c .r ∷ c .s ∷ c .sides
+
+unfoldable pub answerReply : Reply → Certificate → Told
+answerReply (Reply.Refused x) c = told (x .number) (certificateNumbers (x .detail) c)
+answerReply Hull c = told 0 (certificateNumbers 0 c)
+answerReply NotEmpty c = told 0 (certificateNumbers 1 c)
+answerReply Certified c = told 0 (certificateNumbers 2 c)
+answerReply Uncertified c = told 0 (certificateNumbers 3 c)
+
+unfoldable pub certificateReply : List ℤ → List ℕ → ℕ → ℕ → Told
+certificateReply m st a b = answerReply (answerOf m st a b .reply) (answerOf m st a b .certificate)
+
+-- ---- the number of a pair of marks, of which there are at most 128; 101 if it is none
+unfoldable pub isPair : ℕ → ℕ → Bool
+isPair a b = cond (ltb a b) (ltb b 128) false
+
+unfoldable pub pairReply : ℕ → ℕ → Told
+pairReply a b = cond (isPair a b) (told 0 (pairNumber a b ∷ [])) (told 101 (0 ∷ []))
+
+-- ---- "With m inner edges a search ends within m(m+1)/2 examinations", and n marks have at most n(n-1)/2 inner edges
+unfoldable pub longestBudget : ℕ → ℕ
+longestBudget n = pairCount n * (pairCount n + 1) / 2
+
+-- 2: "more than 128 marks", detail n
+unfoldable pub longestBudgetReply : ℕ → Told
+longestBudgetReply n = cond (ltb 128 n) (told 2 (n ∷ [])) (told 0 (longestBudget n ∷ []))

@@ -1,0 +1,206 @@
+// The C interface: what include/skeleton.h declares, over `skeleton`.
+//
+// Each function answers with a status number: 0, or the number of a refusal. What else it has to tell it writes at the start of a lent
+// result buffer; what stands behind stays. A result buffer that is too short is refused first of all, with a number of its own, and then
+// nothing is written anywhere. specs/Driver.antt says every number.
+ghost use mathlib.Core.Path.{_≡_};
+ghost use mathlib.Core.List.{_++_};
+ghost use Prim.Native.Nat.{_≤_};
+ghost use lib.ListN.{length, drop};
+ghost use Rattle.driver.specs.Driver.{version, told, returned, written};
+ghost use Rattle.driver.specs.Driver.{outcomeReply, searchReply, searchStatus};
+ghost use Rattle.driver.specs.Driver.{certificateNumbers, answerReply, certificateReply};
+ghost use Rattle.driver.specs.Driver.{isPair, pairReply, longestBudgetReply};
+use plane::pairs::pair_count;
+use plane::pairs::pair_number;
+use skeleton::certificate::Certificate;
+use skeleton::request::Reply;
+use skeleton::request::request;
+use skeleton::search::Outcome;
+use skeleton::search::search;
+
+// The result buffer is too short.
+const SHORT: u32 = 100;
+
+// Two numbers that are no pair of marks.
+const NO_PAIR: u32 = 101;
+
+// ---- the result buffer
+
+// Writes the numbers at the start of the result buffer.
+fn put(result: &mut [u64], numbers: &[u64])
+    requires { ⌜ length (now numbers) ≤ length (now result) ⌝ }
+    ensures put { λ r. ⌜ now (result .exit) ≡ now (numbers .entry) ++ drop (length (now (numbers .entry))) (now (result .entry)) ⌝ }
+{
+    let mut i = 0;
+    while i < numbers.len() {
+        result[i] = numbers[i];
+        i += 1;
+    }
+}
+
+// Tells a reply: the status number, and the numbers for the result buffer.
+fn tell(result: &mut [u64], number: u32, numbers: &[u64]) -> u32
+    ensures returned { λ r. ⌜ r ≡ returned (now (result .entry)) (told number (now (numbers .entry))) ⌝ }
+    ensures written { λ r. ⌜ now (result .exit) ≡ written (now (result .entry)) (told number (now (numbers .entry))) ⌝ }
+{
+    if result.len() < numbers.len() {
+        return SHORT;
+    }
+    put(result, numbers);
+    number
+}
+
+// ---- the functions of include/skeleton.h
+
+// The version of the interface.
+#[no_mangle]
+pub extern "C" fn skeleton_version() -> u32
+    ensures version { λ r. ⌜ r ≡ version ⌝ }
+{
+    1
+}
+
+// Tells how a search ended.
+fn tell_outcome(result: &mut [u64], o: Outcome) -> u32
+    ensures returned { λ r. ⌜ r ≡ returned (now (result .entry)) (outcomeReply o) ⌝ }
+    ensures written { λ r. ⌜ now (result .exit) ≡ written (now (result .entry)) (outcomeReply o) ⌝ }
+{
+    match o {
+        Outcome::Refused(f) => {
+            let number = f.number as u32;
+            let numbers = [f.detail as u64, 0];
+            tell(result, number, &numbers)
+        }
+        Outcome::Done(e) => {
+            let numbers = [0, e as u64];
+            tell(result, 0, &numbers)
+        }
+        Outcome::Paused(e) => {
+            let numbers = [1, e as u64];
+            tell(result, 0, &numbers)
+        }
+    }
+}
+
+// Searches the plate within the budget and writes the status of each pair.
+#[no_mangle]
+pub extern "C" fn skeleton_search(
+    marks: &[i32],
+    status: &mut [u8],
+    budget: u32,
+    result: &mut [u64],
+) -> u32
+    ensures returned { λ r. ⌜ r ≡ returned (now (result .entry)) (searchReply (now (marks .entry)) (now (status .entry)) budget) ⌝ }
+    ensures written { λ r. ⌜ now (result .exit) ≡ written (now (result .entry)) (searchReply (now (marks .entry)) (now (status .entry)) budget) ⌝ }
+    ensures status { λ r. ⌜ now (status .exit) ≡ searchStatus (now (result .entry)) (now (marks .entry)) (now (status .entry)) budget ⌝ }
+{
+    if result.len() < 2 {
+        return SHORT;
+    }
+    let o = search(marks, status, budget);
+    tell_outcome(result, o)
+}
+
+// The numbers of a certificate, behind one that says what it is.
+fn certificate_numbers(first: u64, c: Certificate) -> [u64; 7]
+    ensures numbers { λ r. ⌜ r ≡ certificateNumbers first c ⌝ }
+{
+    let sides = c.sides;
+    [
+        first,
+        c.r as u64,
+        c.s as u64,
+        sides[0] as u64,
+        sides[1] as u64,
+        sides[2] as u64,
+        sides[3] as u64,
+    ]
+}
+
+// Tells what the certificate request answered.
+fn tell_answer(result: &mut [u64], reply: Reply, c: Certificate) -> u32
+    ensures returned { λ r. ⌜ r ≡ returned (now (result .entry)) (answerReply reply c) ⌝ }
+    ensures written { λ r. ⌜ now (result .exit) ≡ written (now (result .entry)) (answerReply reply c) ⌝ }
+{
+    match reply {
+        Reply::Refused(f) => {
+            let number = f.number as u32;
+            let numbers = certificate_numbers(f.detail as u64, c);
+            tell(result, number, &numbers)
+        }
+        Reply::Hull => {
+            let numbers = certificate_numbers(0, c);
+            tell(result, 0, &numbers)
+        }
+        Reply::NotEmpty => {
+            let numbers = certificate_numbers(1, c);
+            tell(result, 0, &numbers)
+        }
+        Reply::Certified => {
+            let numbers = certificate_numbers(2, c);
+            tell(result, 0, &numbers)
+        }
+        Reply::Uncertified => {
+            let numbers = certificate_numbers(3, c);
+            tell(result, 0, &numbers)
+        }
+    }
+}
+
+// What vouches for the pair (a, b), in the set of the edges whose status is not 0.
+#[no_mangle]
+pub extern "C" fn skeleton_certificate(
+    marks: &[i32],
+    status: &[u8],
+    a: usize,
+    b: usize,
+    result: &mut [u64],
+) -> u32
+    ensures returned { λ r. ⌜ r ≡ returned (now (result .entry)) (certificateReply (now (marks .entry)) (now (status .entry)) a b) ⌝ }
+    ensures written { λ r. ⌜ now (result .exit) ≡ written (now (result .entry)) (certificateReply (now (marks .entry)) (now (status .entry)) a b) ⌝ }
+{
+    let x = request(marks, status, a, b);
+    let reply = x.reply;
+    let c = x.certificate;
+    tell_answer(result, reply, c)
+}
+
+// Whether (a, b) is a pair of at most 128 marks.
+fn is_pair(a: usize, b: usize) -> bool
+    ensures pair { λ r. ⌜ r ≡ isPair a b ⌝ }
+{
+    if a < b {
+        return b < 128;
+    }
+    false
+}
+
+// The number of the pair (a, b).
+#[no_mangle]
+pub extern "C" fn skeleton_pair(a: usize, b: usize, result: &mut [u64]) -> u32
+    ensures returned { λ r. ⌜ r ≡ returned (now (result .entry)) (pairReply a b) ⌝ }
+    ensures written { λ r. ⌜ now (result .exit) ≡ written (now (result .entry)) (pairReply a b) ⌝ }
+{
+    if is_pair(a, b) {
+        let numbers = [pair_number(a, b) as u64];
+        return tell(result, 0, &numbers);
+    }
+    let numbers = [0];
+    tell(result, NO_PAIR, &numbers)
+}
+
+// The longest budget that a plate of n marks can need.
+#[no_mangle]
+pub extern "C" fn skeleton_longest_budget(n: usize, result: &mut [u64]) -> u32
+    ensures returned { λ r. ⌜ r ≡ returned (now (result .entry)) (longestBudgetReply n) ⌝ }
+    ensures written { λ r. ⌜ now (result .exit) ≡ written (now (result .entry)) (longestBudgetReply n) ⌝ }
+{
+    if 128 < n {
+        let numbers = [n as u64];
+        return tell(result, 2, &numbers);
+    }
+    let k = pair_count(n) as u64;
+    let numbers = [k * (k + 1) / 2];
+    tell(result, 0, &numbers)
+}
