@@ -11,9 +11,9 @@ use Rattle.striking.specs.Below.{countBelow}
 use Rattle.striking.proofs.Counting.{count-small}
 use Rattle.skeleton.specs.declared.search.Outcome.the-variants.{Paused}
 use Rattle.skeleton.specs.Answers.{outcomeOf}
-use Rattle.skeleton.specs.Plate.{plate}
-use Rattle.skeleton.specs.Rule9.{innerEdges, ample}
-use Rattle.skeleton.proofs.Counting.{inner-edges}
+use Rattle.certificates.specs.Plate.{plate}
+use Rattle.certificates.specs.Rule9.{innerEdges, ample}
+use Rattle.certificates.proofs.Counting.{inner-edges}
 use Rattle.skeleton.proofs.Theorems.{never-pauses}
 use Rattle.driver.specs.Driver.{longestBudget}
 

@@ -13,7 +13,7 @@ use Rattle.plane.specs.Pairs.{pairCount, pairNumber}
 use Rattle.plane.proofs.Laws.Pairs.{pairCount-small}
 use Rattle.plane.proofs.Laws.Tells.{cond-yes, cond-no}
 use Rattle.plane.specs.declared.check.Refusal.{Refusal}
-use Rattle.skeleton.specs.declared.certificate.Certificate.{Certificate}
+use Rattle.certificates.specs.declared.certificate.Certificate.{Certificate}
 use Rattle.skeleton.specs.declared.request.Reply.{Reply}
 use Rattle.skeleton.specs.declared.request.Reply.the-variants.{Hull, NotEmpty, Certified, Uncertified}
 use Rattle.skeleton.specs.declared.search.Outcome.{Outcome}

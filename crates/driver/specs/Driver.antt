@@ -13,7 +13,7 @@ use lib.Dec.{ltb}
 use lib.IntN.{ℤ}
 use lib.ListN.{length, drop}
 use Rattle.plane.specs.Pairs.{pairCount, pairNumber}
-use Rattle.skeleton.specs.declared.certificate.Certificate.{Certificate}
+use Rattle.certificates.specs.declared.certificate.Certificate.{Certificate}
 use Rattle.skeleton.specs.declared.request.Reply.{Reply}
 use Rattle.skeleton.specs.declared.request.Reply.the-variants.{Hull, NotEmpty, Certified, Uncertified}
 use Rattle.skeleton.specs.declared.request.Answer.{Answer}

@@ -13,7 +13,7 @@ ghost use Rattle.driver.specs.Driver.{certificateNumbers, answerReply, c
 ghost use Rattle.driver.specs.Driver.{isPair, pairReply, longestBudgetReply};
 use plane::pairs::pair_count;
 use plane::pairs::pair_number;
-use skeleton::certificate::Certificate;
+use certificates::certificate::Certificate;
 use skeleton::request::Reply;
 use skeleton::request::request;
 use skeleton::search::Outcome;

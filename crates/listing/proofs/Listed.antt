@@ -21,11 +21,11 @@ use Rattle.skeleton.specs.Answers.{searchRefusal, outcomeOf, statusAfter}
 use Rattle.skeleton.proofs.Table.{accepted-list, accepted-long}
 use Rattle.skeleton.proofs.Ended.{done-search, paused-search}
 use Rattle.skeleton.proofs.Theorems.{status-length}
-use Rattle.listing.specs.declared.read.Reading.{Reading}
-use Rattle.listing.specs.declared.read.Reading.the-variants as reading
-use Rattle.listing.specs.Read.{numbersOf, readingOf, numbersAfter}
-use Rattle.listing.specs.Listing.{refusedText, listingText}
-use Rattle.listing.proofs.Reading.Answer.{numbers-first}
+use Rattle.reading.specs.declared.read.Reading.{Reading}
+use Rattle.reading.specs.declared.read.Reading.the-variants as reading
+use Rattle.reading.specs.Read.{numbersOf, readingOf, numbersAfter}
+use Rattle.writing.specs.Listing.{refusedText, listingText}
+use Rattle.reading.proofs.Answer.{numbers-first}
 use Rattle.listing.specs.Program.{statusRoom, textBy, marksText, listText, textFor, answerText}
 
 module _ (m : List ℤ) (st : List ℕ) (budget : ℕ) where

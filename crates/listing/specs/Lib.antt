@@ -1,5 +1,1 @@
-pub mod Text
-pub mod Read
-pub mod Digits
-pub mod Listing
 pub mod Program

@@ -14,10 +14,10 @@ use Rattle.plane.specs.Pairs.{pairCount}
 use Rattle.skeleton.specs.declared.search.Outcome.{Outcome}
 use Rattle.skeleton.specs.declared.search.Outcome.the-variants.{Refused, Done, Paused}
 use Rattle.skeleton.specs.Answers.{outcomeOf, statusAfter}
-use Rattle.listing.specs.declared.read.Reading.{Reading}
-use Rattle.listing.specs.declared.read.Reading.the-variants as reading
-use Rattle.listing.specs.Read.{numbersOf, readingOf}
-use Rattle.listing.specs.Listing.{refusedText, listingText}
+use Rattle.reading.specs.declared.read.Reading.{Reading}
+use Rattle.reading.specs.declared.read.Reading.the-variants as reading
+use Rattle.reading.specs.Read.{numbersOf, readingOf}
+use Rattle.writing.specs.Listing.{refusedText, listingText}
 
 -- "Its length is exactly n(n-1)/2": a list of more than 128 marks is refused before its length counts
 unfoldable pub statusRoom : List ℤ → ℕ

@@ -19,8 +19,8 @@ use Rattle.striking.specs.Status.{remaining, allEdges, statusByte, statuses}
 use Rattle.striking.specs.Search.{examine, visit, visits, rounds, searchFrom, run, bytesAt, report, search}
 use Rattle.skeleton.specs.declared.search.Outcome.{Outcome}
 use Rattle.skeleton.specs.declared.search.Outcome.the-variants.{Done, Paused}
-use Rattle.skeleton.specs.Certificate.{joined, holdsAgainst, apex, leftApex, rightApex, fits, firstPick, pickFitting, pickRight, firstCertificate}
-use Rattle.skeleton.specs.Plate.{pairsOf, edgesOf, isPair, emptyPair, innerPair, crossPairs, isFound, certified, plate}
+use Rattle.certificates.specs.Certificate.{joined, holdsAgainst, apex, leftApex, rightApex, fits, firstPick, pickFitting, pickRight, firstCertificate}
+use Rattle.certificates.specs.Plate.{pairsOf, edgesOf, isPair, emptyPair, innerPair, crossPairs, isFound, certified, plate}
 use Rattle.skeleton.specs.Answers.{orElse, bufferRow, searchRefusal, told, outcomeAfter, outcomeOf, bytesAfter, statusAfter}
 use mathlib.Core.Path.{_≡_, refl, ap, ap₂}
 use borrow.Author.Tests.{eqb-true}

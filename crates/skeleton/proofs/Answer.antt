@@ -19,17 +19,17 @@ use Rattle.plane.proofs.Laws.Pairs.{pair-unique}
 use Rattle.striking.specs.Status.{remaining}
 use Rattle.skeleton.specs.declared.request.Reply.{Reply}
 use Rattle.skeleton.specs.declared.request.Answer.{Answer}
-use Rattle.skeleton.specs.declared.certificate.Pick.{Pick}
-use Rattle.skeleton.specs.declared.certificate.Pick.the-variants.{Nothing, Apexes}
-use Rattle.skeleton.specs.Certificate.{IsCertificate, firstCertificate}
-use Rattle.skeleton.specs.Plate.{pairsOf, edgesOf}
-use Rattle.skeleton.specs.Rule9.{IsPair}
+use Rattle.certificates.specs.declared.certificate.Pick.{Pick}
+use Rattle.certificates.specs.declared.certificate.Pick.the-variants.{Nothing, Apexes}
+use Rattle.certificates.specs.Certificate.{IsCertificate, firstCertificate}
+use Rattle.certificates.specs.Plate.{pairsOf, edgesOf}
+use Rattle.certificates.specs.Rule9.{IsPair}
 use Rattle.skeleton.specs.Answers.{requestRefusal, without, answerWith, answerIn, unlessRefused, answerOf}
 use Rattle.skeleton.specs.Table.{RequestRow, pair, Lowest, None, IsAnswer, refused, not-empty, hull, certified, uncertified}
-use Rattle.skeleton.proofs.Rule7.{certificate-besides}
-use Rattle.skeleton.proofs.First.{nothing-none, found-first, first-found, first-same, none-nothing}
-use Rattle.skeleton.proofs.Rule5.{hull-empty, inner-empty, inner-not-hull, rest-inner}
-use Rattle.skeleton.proofs.Pairs.{pair-first}
+use Rattle.certificates.proofs.Rule7.{certificate-besides}
+use Rattle.certificates.proofs.First.{nothing-none, found-first, first-found, first-same, none-nothing}
+use Rattle.certificates.proofs.Rule5.{hull-empty, inner-empty, inner-not-hull, rest-inner}
+use Rattle.certificates.proofs.Pairs.{pair-first}
 use Rattle.skeleton.proofs.Settled.{settled-exactly, settled-none}
 use Rattle.skeleton.proofs.Table.{pair-cases, request-settled}
 

@@ -15,12 +15,12 @@ use Rattle.plane.proofs.Laws.Side.{leftOf-tells, rightOf-tells}
 use Rattle.skeleton.specs.declared.request.Reply.the-variants.{NotEmpty}
 use Rattle.skeleton.specs.declared.request.Reply.the-variants as reply
 use Rattle.skeleton.specs.declared.request.Answer.{Answer}
-use Rattle.skeleton.specs.declared.certificate.Pick.the-variants.{Apexes}
-use Rattle.skeleton.specs.Certificate.{firstCertificate}
-use Rattle.skeleton.specs.Rows.{Apart}
+use Rattle.certificates.specs.declared.certificate.Pick.the-variants.{Apexes}
+use Rattle.certificates.specs.Certificate.{firstCertificate}
+use Rattle.certificates.specs.Rows.{Apart}
 use Rattle.skeleton.specs.Answers.{without, answerWith, answerIn}
-use Rattle.skeleton.proofs.First.{found-first}
-use Rattle.skeleton.proofs.Rule7.{left-apart}
+use Rattle.certificates.proofs.First.{found-first}
+use Rattle.certificates.proofs.Rule7.{left-apart}
 
 answerBy : Kind → Answer → Answer
 answerBy Blocked x = without NotEmpty

@@ -16,13 +16,13 @@ use Rattle.plane.proofs.Laws.Pairs.{pairAt-number, pair-below}
 use Rattle.striking.specs.Status.{remaining, allEdges}
 use Rattle.striking.proofs.Below.{length-list, list-at}
 use Rattle.striking.proofs.Remaining.{remaining-not, all-edges}
-use Rattle.skeleton.specs.Plate.{pairsOf, edgesOf, plate}
-use Rattle.skeleton.specs.Rows.{Rows, Clean}
+use Rattle.certificates.specs.Plate.{pairsOf, edgesOf, plate}
+use Rattle.certificates.specs.Rows.{Rows, Clean}
 use Rattle.skeleton.specs.Run.{commonByte, common}
-use Rattle.skeleton.proofs.Near.{rows-same}
-use Rattle.skeleton.proofs.Lawful.{lawful}
-use Rattle.skeleton.proofs.Pairs.{edge-at}
-use Rattle.skeleton.proofs.Readiness.{place}
+use Rattle.certificates.proofs.Near.{rows-same}
+use Rattle.certificates.proofs.Lawful.{lawful}
+use Rattle.certificates.proofs.Pairs.{edge-at}
+use Rattle.certificates.proofs.Places.{place}
 
 pub edges-long : (m : List ℤ) → length (allEdges (plate m)) ≡ pairCount (count m)
 unfolding allEdges plate

@@ -11,11 +11,11 @@ use Rattle.plane.specs.Marks.{count}
 use Rattle.plane.specs.Pairs.{pairNumber, pairAt}
 use Rattle.plane.proofs.Laws.Pairs.{pairAt-numbered, pairAt-number, pairAt-below}
 use Rattle.striking.proofs.Tests.{not-both}
-use Rattle.skeleton.specs.Certificate.{crossing}
-use Rattle.skeleton.specs.Plate.{pairsOf, crossPairs, plate}
-use Rattle.skeleton.specs.Rule9.{IsPair, Kept}
-use Rattle.skeleton.proofs.Lawful.{lawful}
-use Rattle.skeleton.proofs.Pairs.{cross-at}
+use Rattle.certificates.specs.Certificate.{crossing}
+use Rattle.certificates.specs.Plate.{pairsOf, crossPairs, plate}
+use Rattle.certificates.specs.Rule9.{IsPair, Kept}
+use Rattle.certificates.proofs.Lawful.{lawful}
+use Rattle.certificates.proofs.Pairs.{cross-at}
 
 module _ (m : List ℤ) (S : ℕ → Bool) (below : (j : ℕ) → S j ≡ true → j < plate m .size) where
   pub kept-number : (j : ℕ) → S j ≡ true → Kept m (pairsOf S) (pairAt j .a) (pairAt j .b)

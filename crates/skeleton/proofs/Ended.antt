@@ -13,7 +13,7 @@ use Rattle.striking.specs.Search.{Result, done, paused, answer8, isAnswer8, sea
 use Rattle.striking.specs.Search as any
 use Rattle.skeleton.specs.declared.search.Outcome.{Outcome}
 use Rattle.skeleton.specs.declared.search.Outcome.the-variants.{Done, Paused}
-use Rattle.skeleton.specs.Plate.{plate}
+use Rattle.certificates.specs.Plate.{plate}
 use Rattle.skeleton.specs.Answers.{searchRefusal, told, outcomeAfter, outcomeOf, bytesAfter, statusAfter, Unrefused}
 use Rattle.skeleton.specs.Table.{SearchRow, Lowest, None}
 use Rattle.skeleton.proofs.Settled.{not-accepted, same-refusal, settled-exactly, settled-none}

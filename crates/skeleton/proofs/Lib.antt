@@ -1,11 +1,4 @@
 pub mod Plates
-pub mod Rule5
-pub mod Rule7
-pub mod First
-pub mod Sides
-pub mod Lawful
-pub mod Pairs
-pub mod Counting
 pub mod Settled
 pub mod Table
 pub mod Answer
@@ -17,11 +10,5 @@ pub mod Filling
 pub mod Turns
 pub mod Readiness
 pub mod Inner
-pub mod Near
-pub mod Crossing
-pub mod Open
-pub mod Stopped
-pub mod Candidates
-pub mod Apexes
 pub mod Asked
 pub mod Common

@@ -20,8 +20,8 @@ use Rattle.striking.specs.Status.{remaining}
 use Rattle.skeleton.specs.declared.request.Reply.{Reply}
 use Rattle.skeleton.specs.declared.request.Reply.the-variants.{Hull, NotEmpty, Certified, Uncertified}
 use Rattle.skeleton.specs.declared.request.Answer.{Answer}
-use Rattle.skeleton.specs.Certificate.{joined, holdsAgainst, apex, leftApex, rightApex, fits, firstPick, pickFitting, pickRight, firstCertificate, certificateOf}
-use Rattle.skeleton.specs.Plate.{pairsOf, edgesOf}
+use Rattle.certificates.specs.Certificate.{joined, holdsAgainst, apex, leftApex, rightApex, fits, firstPick, pickFitting, pickRight, firstCertificate, certificateOf}
+use Rattle.certificates.specs.Plate.{pairsOf, edgesOf}
 use Rattle.skeleton.specs.Answers.{orElse, bufferRow, isAbove, firstAbove, byteRow, pairRow, searchRefusal, requestRefusal, without, answerWith, answerIn, unlessRefused, answerOf}
 
 -- ---- equal results

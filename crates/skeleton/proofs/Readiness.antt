@@ -20,31 +20,13 @@ use Rattle.masks.specs.Table.{Filled}
 use Rattle.striking.specs.System.{System, crossed, due}
 use Rattle.striking.specs.Status.{remaining, allEdges, statusByte}
 use Rattle.striking.proofs.Remaining.{struck-within, all-edges}
-use Rattle.skeleton.specs.Plate.{edgesOf, plate}
-use Rattle.skeleton.specs.Rows.{Rows, Clean}
+use Rattle.certificates.specs.Plate.{edgesOf, plate}
+use Rattle.certificates.specs.Rows.{Rows, Clean}
 use Rattle.skeleton.specs.Run.{edgeByte, Ready}
-use Rattle.skeleton.proofs.Lawful.{lawful}
-use Rattle.skeleton.proofs.Pairs.{edge-at}
+use Rattle.certificates.proofs.Lawful.{lawful}
+use Rattle.certificates.proofs.Pairs.{edge-at}
+use Rattle.certificates.proofs.Places.{Place}
 use Rattle.skeleton.proofs.Filling.{Filling}
-
--- ---- the pair of a loop over the pairs
-pub record Place (m : List ℤ) (i : ℕ) (p : Pair) : Type 0 where
-  pub up : p .a < p .b
-  pub mark : IsMark m (p .b)
-  pub number : i ≡ pairNumber (p .a) (p .b)
-
-pub place : (m : List ℤ) (i : ℕ) {p : Pair} → p ≡ pairAt i → i < pairCount (count m) → Place m i p
-place m i {p} e l =
-    subst (Place m i) (sym e)
-    (let n = pairAt-numbered i in record { up = n .up; mark = pairAt-below (count m) i l; number = sym (n .number) })
-
-pub pairAt-next : (i : ℕ) {p q : Pair} → q ≡ nextPair p → p ≡ pairAt i → q ≡ pairAt (i + 1)
-unfolding pairAt
-pairAt-next i f e = rw (add-one i) (f ∙ ap nextPair e)
-
-pub pairAt-first : record { a = 0; b = 1 } ≡ pairAt 0
-unfolding pairAt
-pairAt-first = refl
 
 -- the byte with which a pair starts
 pub edge-byte : {m : List ℤ} {i : ℕ} {p : Pair} → Place m i p → edgeByte (kindOf m (p .a) (p .b)) ≡ cond (plate m .edge i) 1 0

@@ -16,12 +16,12 @@ use Rattle.striking.specs.Search.{answer8, isAnswer8, search, remainingSet, byt
 use Rattle.striking.proofs.Tests.{not-both, second-of}
 use Rattle.striking.proofs.System.{due-in, due-inner}
 use Rattle.striking.proofs.Theorems as striking
-use Rattle.skeleton.specs.Certificate.{crossing, HasCertificate}
-use Rattle.skeleton.specs.Plate.{pairsOf, edgesOf, isPair, innerPair, crossPairs, plate}
-use Rattle.skeleton.specs.Rule9.{IsPair, Kept}
+use Rattle.certificates.specs.Certificate.{crossing, HasCertificate}
+use Rattle.certificates.specs.Plate.{pairsOf, edgesOf, isPair, innerPair, crossPairs, plate}
+use Rattle.certificates.specs.Rule9.{IsPair, Kept}
 use Rattle.skeleton.specs.Answers.{searchRefusal, outcomeOf, byteAfter, remainsAfter, Unrefused}
-use Rattle.skeleton.proofs.Sides.{certificate-edges}
-use Rattle.skeleton.proofs.Lawful.{lawful, has-certified}
+use Rattle.certificates.proofs.Sides.{certificate-edges}
+use Rattle.certificates.proofs.Lawful.{lawful, has-certified}
 use Rattle.skeleton.proofs.Crossed.{kept-number, uncrossed-pairs, crossed-pairs}
 use Rattle.skeleton.proofs.Ended.{status-accepted, unrefused-search}
 

@@ -26,8 +26,8 @@ use Rattle.striking.specs.Search as any
 use Rattle.striking.proofs.Tests.{not-both}
 use Rattle.skeleton.specs.declared.search.Outcome.{Outcome}
 use Rattle.skeleton.specs.declared.search.Outcome.the-variants.{Done, Paused}
-use Rattle.skeleton.specs.Plate.{plate}
-use Rattle.skeleton.specs.Rule9.{IsPair}
+use Rattle.certificates.specs.Plate.{plate}
+use Rattle.certificates.specs.Rule9.{IsPair}
 use Rattle.skeleton.specs.Answers.{orElse, bufferRow, isAbove, firstAbove, byteRow, pairRow, searchRefusal, requestRefusal, told, outcomeAfter, outcomeOf}
 use Rattle.skeleton.specs.Table.{SearchRow, RequestRow, list, buffer, byte, pair, uncrossed}
 use Rattle.skeleton.proofs.Settled.{not-accepted, or-first, or-second, At, Settled, settled-exactly, settled-none, settled-at, settled-or, settled-as, from-refused}

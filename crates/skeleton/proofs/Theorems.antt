@@ -30,17 +30,17 @@ use Rattle.striking.proofs.Theorems as striking
 use Rattle.skeleton.specs.declared.request.Answer.{Answer}
 use Rattle.skeleton.specs.declared.search.Outcome.{Outcome}
 use Rattle.skeleton.specs.declared.search.Outcome.the-variants.{Done, Paused}
-use Rattle.skeleton.specs.Certificate.{crossing, IsCertificate, HasCertificate, IsFirst, fits, firstCertificate}
-use Rattle.skeleton.specs.declared.certificate.Pick.the-variants.{Nothing, Apexes}
-use Rattle.skeleton.specs.Plate.{pairsOf, plate}
-use Rattle.skeleton.specs.Rule9.{IsPair, Kept, LocallyMinimal, Largest, ample}
+use Rattle.certificates.specs.Certificate.{crossing, IsCertificate, HasCertificate, IsFirst, fits, firstCertificate}
+use Rattle.certificates.specs.declared.certificate.Pick.the-variants.{Nothing, Apexes}
+use Rattle.certificates.specs.Plate.{pairsOf, plate}
+use Rattle.certificates.specs.Rule9.{IsPair, Kept, LocallyMinimal, Largest, ample}
 use Rattle.skeleton.specs.Answers.{searchRefusal, answerOf, outcomeAfter, outcomeOf, Unrefused, bytesAfter, statusAfter, byteAfter, remainsAfter}
 use Rattle.skeleton.specs.Table.{SearchRow, RequestRow, Lowest, None, IsAnswer}
-use Rattle.skeleton.proofs.Rule7.{fits-certificate, certificate-fits}
-use Rattle.skeleton.proofs.First.{nothing-none, found-first, first-found, none-nothing}
-use Rattle.skeleton.proofs.Lawful.{lawful}
-use Rattle.skeleton.proofs.Pairs.{number-in, minimal-numbers, largest-pairs}
-use Rattle.skeleton.proofs.Counting.{ample-is}
+use Rattle.certificates.proofs.Rule7.{fits-certificate, certificate-fits}
+use Rattle.certificates.proofs.First.{nothing-none, found-first, first-found, none-nothing}
+use Rattle.certificates.proofs.Lawful.{lawful}
+use Rattle.certificates.proofs.Pairs.{number-in, minimal-numbers, largest-pairs}
+use Rattle.certificates.proofs.Counting.{ample-is}
 use Rattle.skeleton.proofs.Table.{refused-early, accepted-long}
 use Rattle.skeleton.proofs.Answer.{is-answer, the-answer, answer-moved}
 use Rattle.skeleton.proofs.Ended.{status-accepted, status-refused, search-refused, search-unrefused, done-search, paused-search, refused-search}

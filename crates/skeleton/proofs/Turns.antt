@@ -18,14 +18,14 @@ use Rattle.striking.specs.Status.{remaining}
 use Rattle.striking.specs.Search.{done, paused, answer8, State, going, over, examine, visit, visits, rounds}
 use Rattle.striking.proofs.Steps.{visit-pass, visit-pause, visit-examines, visit-over, after, rounds-more}
 use Rattle.striking.proofs.Invariants.{Grown, GrownAt, round-grows}
-use Rattle.skeleton.specs.declared.certificate.Pick.{Pick}
-use Rattle.skeleton.specs.declared.certificate.Pick.the-variants.{Nothing, Apexes}
+use Rattle.certificates.specs.declared.certificate.Pick.{Pick}
+use Rattle.certificates.specs.declared.certificate.Pick.the-variants.{Nothing, Apexes}
 use Rattle.skeleton.specs.declared.search.Halt.{Halt}
 use Rattle.skeleton.proofs.search.Halt
 use Rattle.skeleton.specs.declared.search.Halt.the-variants.{Going, Finished, Spent, Stuck}
 use Rattle.skeleton.specs.declared.search.Run.{Run}
-use Rattle.skeleton.specs.Certificate.{firstCertificate}
-use Rattle.skeleton.specs.Plate.{edgesOf, isFound, certified, plate}
+use Rattle.certificates.specs.Certificate.{firstCertificate}
+use Rattle.certificates.specs.Plate.{edgesOf, isFound, certified, plate}
 use Rattle.skeleton.specs.Run.{outcomeBy, asFinal, stateBy, asState}
 
 -- ---- what is known of the certificate is known of the system

@@ -32,10 +32,10 @@ use Rattle.skeleton.specs.declared.request.Reply.the-variants.{Hull, Not
 use Rattle.skeleton.specs.declared.request.Answer.{Answer}
 use Rattle.skeleton.specs.declared.search.Outcome.{Outcome}
 use Rattle.skeleton.specs.declared.search.Outcome.the-variants.{Done, Paused}
-use Rattle.skeleton.specs.declared.certificate.Pick.{Pick}
-use Rattle.skeleton.specs.declared.certificate.Pick.the-variants.{Nothing, Apexes}
-use Rattle.skeleton.specs.Certificate.{firstCertificate, certificateOf}
-use Rattle.skeleton.specs.Plate.{pairsOf, edgesOf, plate}
+use Rattle.certificates.specs.declared.certificate.Pick.{Pick}
+use Rattle.certificates.specs.declared.certificate.Pick.the-variants.{Nothing, Apexes}
+use Rattle.certificates.specs.Certificate.{firstCertificate, certificateOf}
+use Rattle.certificates.specs.Plate.{pairsOf, edgesOf, plate}
 
 -- ---- refusals
 -- "The lowest number that applies is given": later rows are asked where no earlier one applies

@@ -22,8 +22,8 @@ use Rattle.striking.specs.Search.{Outcome, done, paused, answer8, Final, State,
 use Rattle.skeleton.specs.declared.search.Halt.{Halt}
 use Rattle.skeleton.specs.declared.search.Halt.the-variants.{Going, Finished, Spent, Stuck}
 use Rattle.skeleton.specs.declared.search.Run.{Run}
-use Rattle.skeleton.specs.Plate.{edgesOf}
-use Rattle.skeleton.specs.Rows.{Rows, Clean}
+use Rattle.certificates.specs.Plate.{edgesOf}
+use Rattle.certificates.specs.Rows.{Rows, Clean}
 
 unfoldable pub edgeByte : Kind → ℕ
 edgeByte Blocked = 0

@@ -22,9 +22,9 @@ use Rattle.striking.specs.Search.{answer8, search}
 use Rattle.skeleton.specs.declared.request.Reply.{Reply}
 use Rattle.skeleton.specs.declared.request.Reply.the-variants.{Hull, NotEmpty, Certified, Uncertified}
 use Rattle.skeleton.specs.declared.request.Answer.{Answer}
-use Rattle.skeleton.specs.Certificate.{HasCertificate, IsFirst, certificateOf}
-use Rattle.skeleton.specs.Plate.{edgesOf, plate}
-use Rattle.skeleton.specs.Rule9.{IsPair}
+use Rattle.certificates.specs.Certificate.{HasCertificate, IsFirst, certificateOf}
+use Rattle.certificates.specs.Plate.{edgesOf, plate}
+use Rattle.certificates.specs.Rule9.{IsPair}
 use Rattle.skeleton.specs.Answers.{without}
 
 -- ---- the rows, each with its "given exactly when" and its detail

@@ -3,7 +3,7 @@ use mathlib.Core.Path.{refl, sym, _∙_}
 use native.Mathlib.Omega.{arith}
 use borrow.Author.Needs.{needs}
 use lib.Seq.{length-take-le}
-use Rattle.listing.proofs.Reading.Answer.{count-small}
+use Rattle.reading.proofs.Answer.{count-small}
 use Rattle.listing.proofs.Listed.{answered-refused, answered-read, read-part, stands-as, stands-room}
 use Rattle.listing.specs.Program.{answerText}
 use Rattle.listing.proofs.list.answer.Statement.{statement}

@@ -2,7 +2,7 @@
 use mathlib.Core.Path.{sym, ap, _∙_}
 use native.Mathlib.Omega.{arith}
 use borrow.Author.Needs.{needs}
-use Rattle.skeleton.specs.declared.certificate.Certificate.{Certificate}
+use Rattle.certificates.specs.declared.certificate.Certificate.{Certificate}
 use Rattle.skeleton.specs.declared.request.Reply.the-variants.{Certified}
 use Rattle.skeleton.specs.Answers.{answerWith}
 use Rattle.skeleton.proofs.Asked.{answer-blocked, answer-hull, answer-inner, inner-empty, apexes-apart}

@@ -3,7 +3,7 @@ use mathlib.Core.Path.{sym, ap, _∙_}
 use borrow.Author.Needs.{needs}
 use Rattle.plane.specs.declared.check.Verdict.{Verdict}
 use Rattle.striking.specs.Status.{remaining}
-use Rattle.skeleton.specs.Plate.{edgesOf}
+use Rattle.certificates.specs.Plate.{edgesOf}
 use Rattle.skeleton.specs.Answers.{unlessRefused, answerIn, answerOf}
 use Rattle.skeleton.proofs.Table.{accepted-list, accepted-long, accepted-request}
 use Rattle.skeleton.proofs.request.request.Statement.{statement}

@@ -4,7 +4,7 @@ use borrow.Author.Needs.{needs}
 use borrow.Author.Tests.{not-true, not-false}
 use Rattle.striking.specs.System.{crossed}
 use Rattle.striking.specs.Status.{remaining}
-use Rattle.skeleton.specs.Plate.{plate}
+use Rattle.certificates.specs.Plate.{plate}
 use Rattle.skeleton.specs.Run.{asState, stateBy, asFinal, outcomeBy}
 use Rattle.skeleton.proofs.Turns.{examine-keeps, examine-strikes, examine-stuck}
 use Rattle.skeleton.proofs.Readiness.{ready-struck, ready-place}

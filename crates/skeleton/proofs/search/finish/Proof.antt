@@ -5,7 +5,7 @@ use borrow.Author.Needs.{needs}
 use lib.ListN.{replicate}
 use Rattle.striking.specs.Search.{Outcome, bytesAt}
 use Rattle.skeleton.specs.declared.search.Halt.{Halt}
-use Rattle.skeleton.specs.Plate.{plate}
+use Rattle.certificates.specs.Plate.{plate}
 use Rattle.skeleton.specs.Answers.{told}
 use Rattle.skeleton.specs.Run.{outcomeBy}
 use Rattle.skeleton.proofs.Turns.{paused-by}

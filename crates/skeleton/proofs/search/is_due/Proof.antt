@@ -5,9 +5,9 @@ use borrow.Author.Needs.{needs}
 use Rattle.striking.specs.System.{due}
 use Rattle.striking.specs.Status.{remaining}
 use Rattle.striking.proofs.Remaining.{remaining-not, remaining-yes}
-use Rattle.skeleton.proofs.Pairs.{inner-at}
+use Rattle.certificates.proofs.Pairs.{inner-at}
 use Rattle.plane.proofs.Laws.Tells.{cond-yes, cond-no}
-use Rattle.skeleton.specs.Plate.{plate}
+use Rattle.certificates.specs.Plate.{plate}
 use Rattle.skeleton.proofs.search.is_due.Statement.{statement}
 use Rattle.skeleton.proofs.search.is_due.Tie as tie
 

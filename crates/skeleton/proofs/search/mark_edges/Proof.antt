@@ -9,10 +9,11 @@ use Rattle.plane.specs.Pairs.{pairAt}
 use Rattle.masks.specs.Table.{Filled}
 use Rattle.masks.proofs.Laws.Table.{fill-end}
 use Rattle.striking.specs.Status.{allEdges}
-use Rattle.skeleton.specs.Plate.{plate}
+use Rattle.certificates.specs.Plate.{plate}
 use Rattle.skeleton.specs.Run.{edgeByte}
 use Rattle.skeleton.proofs.Filling.{Filling, filling-none, filling-next, filling-end}
-use Rattle.skeleton.proofs.Readiness.{place, pairAt-first, pairAt-next, edge-byte, filled-next}
+use Rattle.certificates.proofs.Places.{place, pairAt-first, pairAt-next}
+use Rattle.skeleton.proofs.Readiness.{edge-byte, filled-next}
 use Rattle.skeleton.proofs.search.mark_edges.Statement.{statement}
 use Rattle.skeleton.proofs.search.mark_edges.Tie as tie
 

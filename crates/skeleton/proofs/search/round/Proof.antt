@@ -7,10 +7,10 @@ use borrow.Author.Needs.{needs}
 use lib.ListN.{length}
 use Rattle.plane.specs.Pairs.{pairAt}
 use Rattle.striking.specs.Search.{going, visit, visits}
-use Rattle.skeleton.specs.Plate.{plate}
+use Rattle.certificates.specs.Plate.{plate}
 use Rattle.skeleton.specs.Run.{asState, stateBy, Ready}
 use Rattle.skeleton.proofs.Turns.{visits-none, visits-more}
-use Rattle.skeleton.proofs.Readiness.{place, pairAt-first, pairAt-next}
+use Rattle.certificates.proofs.Places.{place, pairAt-first, pairAt-next}
 use Rattle.skeleton.proofs.search.round.Statement.{statement}
 use Rattle.skeleton.proofs.search.round.Tie as tie
 

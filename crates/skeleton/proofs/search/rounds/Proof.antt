@@ -5,7 +5,7 @@ use native.Mathlib.Omega.{arith}
 use borrow.Author.Needs.{needs}
 use borrow.Author.Tests.{not-true, not-false}
 use Rattle.striking.specs.Search.{rounds, searchFrom}
-use Rattle.skeleton.specs.Plate.{plate}
+use Rattle.certificates.specs.Plate.{plate}
 use Rattle.skeleton.specs.Run.{asFinal, outcomeBy, Ready}
 use Rattle.skeleton.proofs.Turns.{halted, rounds-over, rounds-done, rounds-again, round-cost}
 use Rattle.skeleton.proofs.search.rounds.Statement.{statement}

@@ -3,7 +3,7 @@ use mathlib.Core.Path.{sym, ap, _∙_}
 use borrow.Author.Needs.{needs}
 use Rattle.plane.specs.declared.check.Verdict.{Verdict}
 use Rattle.striking.specs.Search as striking
-use Rattle.skeleton.specs.Plate.{plate}
+use Rattle.certificates.specs.Plate.{plate}
 use Rattle.skeleton.specs.Answers.{outcomeAfter, outcomeOf, bytesAfter, statusAfter}
 use Rattle.skeleton.proofs.Table.{accepted-long, accepted-list}
 use Rattle.skeleton.proofs.search.search.Statement.{statement}

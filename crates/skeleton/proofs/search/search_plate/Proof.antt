@@ -5,8 +5,8 @@ use lib.ListN.{length}
 use Rattle.masks.proofs.Laws.Table.{fill-start}
 use Rattle.striking.specs.Search.{Final, searchFrom, bytesAt, report, run}
 use Rattle.striking.specs.Search as striking
-use Rattle.skeleton.specs.Plate.{plate}
-use Rattle.skeleton.specs.Rows.{Clean}
+use Rattle.certificates.specs.Plate.{plate}
+use Rattle.certificates.specs.Rows.{Clean}
 use Rattle.skeleton.specs.Answers.{told}
 use Rattle.skeleton.specs.Run.{asFinal}
 use Rattle.skeleton.proofs.Readiness.{clean-start}

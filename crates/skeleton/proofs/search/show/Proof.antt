@@ -7,9 +7,10 @@ use borrow.Author.Needs.{needs}
 use lib.ListN.{length}
 use Rattle.plane.specs.Pairs.{pairAt}
 use Rattle.striking.specs.Status.{remaining, statusByte, statuses}
-use Rattle.skeleton.specs.Plate.{plate}
+use Rattle.certificates.specs.Plate.{plate}
 use Rattle.skeleton.proofs.Filling.{Filling, filling-none, filling-next, filling-end}
-use Rattle.skeleton.proofs.Readiness.{place, pairAt-first, pairAt-next, ready-same, status-remaining}
+use Rattle.certificates.proofs.Places.{place, pairAt-first, pairAt-next}
+use Rattle.skeleton.proofs.Readiness.{ready-same, status-remaining}
 use Rattle.skeleton.proofs.search.show.Statement.{statement}
 use Rattle.skeleton.proofs.search.show.Tie as tie
 

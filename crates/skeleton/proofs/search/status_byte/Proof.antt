@@ -5,7 +5,7 @@ use Rattle.striking.specs.Status.{remaining, statusByte}
 use Rattle.striking.proofs.Remaining.{remaining-not, remaining-yes}
 use Rattle.skeleton.proofs.Readiness.{ready-place}
 use Rattle.plane.proofs.Laws.Tells.{cond-yes, cond-no}
-use Rattle.skeleton.specs.Plate.{plate}
+use Rattle.certificates.specs.Plate.{plate}
 use Rattle.skeleton.proofs.search.status_byte.Statement.{statement}
 use Rattle.skeleton.proofs.search.status_byte.Tie as tie
 

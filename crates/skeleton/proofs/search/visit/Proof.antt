@@ -3,7 +3,7 @@ use mathlib.Core.Path.{sym, _∙_}
 use native.Mathlib.Omega.{arith}
 use borrow.Author.Needs.{needs}
 use borrow.Author.Tests.{not-true, not-false}
-use Rattle.skeleton.specs.Plate.{plate}
+use Rattle.certificates.specs.Plate.{plate}
 use Rattle.skeleton.specs.Run.{asState, stateBy, asFinal, outcomeBy}
 use Rattle.skeleton.proofs.Turns.{halted, turn-over, turn-passes, turn-examines, turn-pauses}
 use Rattle.skeleton.proofs.Readiness.{ready-place, due-edge}

@@ -1,0 +1,14 @@
+pub mod Rule5
+pub mod Rule7
+pub mod First
+pub mod Sides
+pub mod Lawful
+pub mod Pairs
+pub mod Counting
+pub mod Near
+pub mod Crossing
+pub mod Open
+pub mod Stopped
+pub mod Candidates
+pub mod Apexes
+pub mod Places

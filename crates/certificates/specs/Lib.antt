@@ -1,0 +1,4 @@
+pub mod Certificate
+pub mod Plate
+pub mod Rows
+pub mod Rule9
