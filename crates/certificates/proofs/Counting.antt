@@ -8,9 +8,9 @@ use native.Mathlib.Nat.{add-suc, add-zero}
 use native.Mathlib.Omega.{arith}
 use lib.IntN.{ℤ}
 use Rattle.plane.specs.Marks.{count}
-use Rattle.plane.specs.Pairs.{pairCount, pairNumber}
+use Rattle.pairs.specs.Pairs.{pairCount, pairNumber}
 use Rattle.plane.specs.Hull.{innerEdge}
-use Rattle.plane.proofs.Laws.Pairs.{pairCount-suc}
+use Rattle.pairs.proofs.Laws.{pairCount-suc}
 use Rattle.striking.specs.Below.{countBelow}
 use Rattle.striking.specs.System as system
 use Rattle.striking.specs.Demands as demands

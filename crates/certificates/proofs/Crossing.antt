@@ -12,13 +12,13 @@ use borrow.Author.Tests.{not-true, not-false}
 use lib.IntN.{ℤ}
 use Rattle.plane.specs.Numbers.{firstTo}
 use Rattle.plane.specs.Marks.{IsMark, count, mark}
-use Rattle.plane.specs.Pairs.{pairNumber, pairAt}
+use Rattle.pairs.specs.Pairs.{pairNumber, pairAt}
 use Rattle.plane.specs.Edge.{emptyEdge}
 use Rattle.plane.specs.Cross.{crosses}
 use Rattle.plane.proofs.Laws.Tells.{tells-true, tells-yes}
 use Rattle.plane.proofs.Laws.Numbers.{all-miss, all-no}
 use Rattle.plane.proofs.Laws.Side.{L, leftOf-tells, rightOf-tells}
-use Rattle.plane.proofs.Laws.Pairs.{pairAt-numbered, pairAt-below}
+use Rattle.pairs.proofs.Laws.{pairAt-numbered, pairAt-below}
 use Rattle.plane.proofs.Laws.Cross.{crosses-ends, crosses-tells}
 use Rattle.masks.specs.declared.sets.Set.{Set}
 use Rattle.masks.specs.Sets.{setOf, has, lacks, none, both, without}

@@ -6,12 +6,12 @@ use mathlib.Core.List.{List}
 use Prim.Native.Nat.{ℕ, _<_}
 use borrow.Author.Tests.{ltb-true}
 use lib.IntN.{ℤ}
-use Rattle.plane.specs.declared.pairs.Pair.{Pair}
+use Rattle.pairs.specs.declared.Pair.{Pair}
 use Rattle.plane.specs.Marks.{count}
-use Rattle.plane.specs.Pairs.{pairCount, pairNumber, pairAt}
+use Rattle.pairs.specs.Pairs.{pairCount, pairNumber, pairAt}
 use Rattle.plane.specs.Edge.{emptyEdge}
 use Rattle.plane.specs.Hull.{innerEdge}
-use Rattle.plane.proofs.Laws.Pairs.{pair-below, pairAt-numbered}
+use Rattle.pairs.proofs.Laws.{pair-below, pairAt-numbered}
 use Rattle.striking.specs.System.{Within, Lawful}
 use Rattle.striking.proofs.Tests.{not-both, both, first-of, second-of}
 use Rattle.certificates.specs.declared.certificate.Pick.{Pick}

@@ -13,10 +13,10 @@ use lib.IntN.{ℤ}
 use lib.ListN.{length, getD, set, replicate, length-set, length-replicate, getD-replicate, List·getD-eq-default}
 use lib.Seq.{getD-set-same, getD-set-other, ext-getD}
 use Rattle.plane.specs.Marks.{IsMark, Plate}
-use Rattle.plane.specs.Pairs.{pairNumber}
+use Rattle.pairs.specs.Pairs.{pairNumber}
 use Rattle.plane.specs.Edge.{emptyEdge}
 use Rattle.plane.proofs.Laws.Tells.{cond-yes, cond-no}
-use Rattle.plane.proofs.Laws.Pairs.{pair-unique}
+use Rattle.pairs.proofs.Laws.{pair-unique}
 use Rattle.masks.specs.declared.sets.Set.{Set}
 use Rattle.masks.specs.Sets.{setOf, has, including, without}
 use Rattle.masks.specs.Sides.{isMark}

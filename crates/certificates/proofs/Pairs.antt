@@ -7,13 +7,13 @@ use Prim.Native.Nat.{ℕ, _<_}
 use native.Mathlib.Omega.{arith}
 use borrow.Author.Tests.{lt-ltb}
 use lib.IntN.{ℤ}
-use Rattle.plane.specs.declared.pairs.Pair.{Pair}
+use Rattle.pairs.specs.declared.Pair.{Pair}
 use Rattle.plane.specs.Marks.{count, IsMark}
-use Rattle.plane.specs.Pairs.{pairNumber, pairAt}
+use Rattle.pairs.specs.Pairs.{pairNumber, pairAt}
 use Rattle.plane.specs.Edge.{emptyEdge}
 use Rattle.plane.specs.Hull.{hullEdge, innerEdge}
 use Rattle.plane.proofs.Laws.Tells.{cond-yes}
-use Rattle.plane.proofs.Laws.Pairs.{pair-below, pairAt-numbered, pairAt-number}
+use Rattle.pairs.proofs.Laws.{pair-below, pairAt-numbered, pairAt-number}
 use Rattle.striking.specs.System.{Within}
 use Rattle.striking.specs.Demands as any
 use Rattle.striking.proofs.Tests.{both, first-of, second-of}

@@ -4,10 +4,10 @@ use mathlib.Core.List.{List}
 use Prim.Native.Nat.{ℕ, _+_, _<_}
 use native.Mathlib.Numerals.{add-one}
 use lib.IntN.{ℤ}
-use Rattle.plane.specs.declared.pairs.Pair.{Pair}
+use Rattle.pairs.specs.declared.Pair.{Pair}
 use Rattle.plane.specs.Marks.{count, IsMark}
-use Rattle.plane.specs.Pairs.{pairCount, pairNumber, nextPair, pairAt}
-use Rattle.plane.proofs.Laws.Pairs.{pairAt-numbered, pairAt-below}
+use Rattle.pairs.specs.Pairs.{pairCount, pairNumber, nextPair, pairAt}
+use Rattle.pairs.proofs.Laws.{pairAt-numbered, pairAt-below}
 
 pub record Place (m : List ℤ) (i : ℕ) (p : Pair) : Type 0 where
   pub up : p .a < p .b

@@ -20,7 +20,7 @@ use lib.Dec.{ltb}
 use lib.IntN.{ℤ}
 use lib.Signed.{leZ, _≤ℤ_}
 use Rattle.plane.specs.Marks.{count, mark, IsMark}
-use Rattle.plane.specs.Pairs.{pairOf}
+use Rattle.pairs.specs.Pairs.{pairOf}
 use Rattle.plane.specs.Side.{leftOf, rightOf}
 use Rattle.plane.specs.Weight.{weight}
 use Rattle.plane.specs.Cross.{crosses}

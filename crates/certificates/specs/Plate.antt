@@ -12,9 +12,9 @@ use mathlib.Core.List.{List}
 use Prim.Native.Nat.{ℕ}
 use lib.Dec.{ltb}
 use lib.IntN.{ℤ}
-use Rattle.plane.specs.declared.pairs.Pair.{Pair}
+use Rattle.pairs.specs.declared.Pair.{Pair}
 use Rattle.plane.specs.Marks.{count}
-use Rattle.plane.specs.Pairs.{pairCount, pairNumber, pairAt}
+use Rattle.pairs.specs.Pairs.{pairCount, pairNumber, pairAt}
 use Rattle.plane.specs.Edge.{emptyEdge}
 use Rattle.plane.specs.Hull.{innerEdge}
 use Rattle.striking.specs.System.{System}

@@ -22,7 +22,7 @@ use lib.ListN.{length, getD, set}
 use lib.Signed.{leZ}
 use Rattle.plane.specs.Numbers.{allTo}
 use Rattle.plane.specs.Marks.{count, mark, IsMark}
-use Rattle.plane.specs.Pairs.{pairNumber}
+use Rattle.pairs.specs.Pairs.{pairNumber}
 use Rattle.plane.specs.Weight.{weight}
 use Rattle.plane.specs.Edge.{emptyEdge}
 use Rattle.masks.specs.declared.sets.Set.{Set}

@@ -19,8 +19,8 @@ use masks::sets::rest_of;
 use masks::table::left_set;
 use masks::table::none_left;
 use masks::table::splits;
+use pairs::pair_of;
 use plane::marks::mark;
-use plane::pairs::pair_of;
 use plane::weight::weight;
 
 // The two apexes, and the pair numbers of the four sides in the order pr, qr, ps, qs.

@@ -2,7 +2,7 @@
 ghost use mathlib.Core.Path.{_≡_};
 ghost use Prim.Native.Nat.{_<_};
 ghost use Rattle.plane.specs.Marks.{Plate, IsMark};
-ghost use Rattle.plane.specs.Pairs.{pairNumber};
+ghost use Rattle.pairs.specs.Pairs.{pairNumber};
 ghost use Rattle.striking.specs.System.{crossed};
 ghost use Rattle.striking.specs.Status.{remaining};
 ghost use Rattle.masks.specs.Table.{Table};

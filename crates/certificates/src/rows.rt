@@ -5,15 +5,15 @@ ghost use mathlib.Core.Bool.{true};
 ghost use Prim.Native.Nat.{_+_, _<_, _≤_};
 ghost use lib.ListN.{length, set, replicate};
 ghost use Rattle.plane.specs.Marks.{Plate, IsMark, count};
-ghost use Rattle.plane.specs.Pairs.{pairCount, pairNumber};
+ghost use Rattle.pairs.specs.Pairs.{pairCount, pairNumber};
 ghost use Rattle.striking.specs.Status.{remaining};
 ghost use Rattle.certificates.specs.Plate.{edgesOf};
 ghost use Rattle.certificates.specs.Rows.{rowAt, putRow, Rows, below, Clean};
 use masks::sets::Set;
 use masks::sets::add;
 use masks::sets::remove;
-use plane::pairs::Pair;
-use plane::pairs::next_pair;
+use pairs::Pair;
+use pairs::next_pair;
 
 // The row of mark p.
 pub fn row(d: &[u64], p: usize) -> Set

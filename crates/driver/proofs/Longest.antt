@@ -6,7 +6,7 @@ use native.Mathlib.Nat.{mul-le-mul-left, mul-le-mul-right, le-trans}
 use native.Mathlib.Omega.{arith}
 use lib.IntN.{ℤ}
 use Rattle.plane.specs.Marks.{count}
-use Rattle.plane.specs.Pairs.{pairCount}
+use Rattle.pairs.specs.Pairs.{pairCount}
 use Rattle.striking.specs.Below.{countBelow}
 use Rattle.striking.proofs.Counting.{count-small}
 use Rattle.skeleton.specs.declared.search.Outcome.the-variants.{Paused}

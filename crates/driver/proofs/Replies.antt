@@ -9,10 +9,10 @@ use borrow.Author.Tests.{lt-ltb, le-ltb, ltb-true}
 use lib.Dec.{ltb}
 use lib.IntN.{ℤ}
 use lib.ListN.{length, drop}
-use Rattle.plane.specs.Pairs.{pairCount, pairNumber}
-use Rattle.plane.proofs.Laws.Pairs.{pairCount-small}
+use Rattle.pairs.specs.Pairs.{pairCount, pairNumber}
+use Rattle.pairs.proofs.Laws.{pairCount-small}
 use Rattle.plane.proofs.Laws.Tells.{cond-yes, cond-no}
-use Rattle.plane.specs.declared.check.Refusal.{Refusal}
+use Rattle.refusals.specs.declared.Refusal.{Refusal}
 use Rattle.certificates.specs.declared.certificate.Certificate.{Certificate}
 use Rattle.skeleton.specs.declared.request.Reply.{Reply}
 use Rattle.skeleton.specs.declared.request.Reply.the-variants.{Hull, NotEmpty, Certified, Uncertified}

@@ -12,7 +12,7 @@ use Prim.Native.Nat.{ℕ, _+_, _*_, _/_}
 use lib.Dec.{ltb}
 use lib.IntN.{ℤ}
 use lib.ListN.{length, drop}
-use Rattle.plane.specs.Pairs.{pairCount, pairNumber}
+use Rattle.pairs.specs.Pairs.{pairCount, pairNumber}
 use Rattle.certificates.specs.declared.certificate.Certificate.{Certificate}
 use Rattle.skeleton.specs.declared.request.Reply.{Reply}
 use Rattle.skeleton.specs.declared.request.Reply.the-variants.{Hull, NotEmpty, Certified, Uncertified}

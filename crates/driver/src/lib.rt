@@ -11,13 +11,15 @@ ghost use Rattle.driver.specs.Driver.{version, told, returned, written};
 ghost use Rattle.driver.specs.Driver.{outcomeReply, searchReply, searchStatus};
 ghost use Rattle.driver.specs.Driver.{certificateNumbers, answerReply, certificateReply};
 ghost use Rattle.driver.specs.Driver.{isPair, pairReply, longestBudgetReply};
-use plane::pairs::pair_count;
-use plane::pairs::pair_number;
 use certificates::certificate::Certificate;
+use pairs::pair_count;
+use pairs::pair_number;
 use skeleton::request::Reply;
 use skeleton::request::request;
 use skeleton::search::Outcome;
 use skeleton::search::search;
+
+const VERSION: u32 = 1;
 
 // The result buffer is too short.
 const SHORT: u32 = 100;
@@ -58,7 +60,7 @@ fn tell(result: &mut [u64], number: u32, numbers: &[u64]) -> u32
 pub extern "C" fn skeleton_version() -> u32
     ensures version { λ r. ⌜ r ≡ version ⌝ }
 {
-    1
+    VERSION
 }
 
 // Tells how a search ended.

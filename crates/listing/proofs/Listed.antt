@@ -10,11 +10,11 @@ use lib.Dec.{ltb}
 use lib.IntN.{ℤ}
 use lib.ListN.{length, take, drop, replicate, length-append, length-replicate, getD-replicate}
 use lib.Seq.{ext-getD, getD-take, length-take-le}
-use Rattle.plane.specs.declared.check.Refusal.{Refusal}
-use Rattle.plane.specs.declared.check.Verdict.the-variants.{Accepted}
+use Rattle.refusals.specs.declared.Refusal.{Refusal}
+use Rattle.refusals.specs.declared.Verdict.the-variants.{Accepted}
 use Rattle.plane.specs.Marks.{count}
-use Rattle.plane.specs.Pairs.{pairCount}
-use Rattle.plane.proofs.Laws.Pairs.{pairCount-small}
+use Rattle.pairs.specs.Pairs.{pairCount}
+use Rattle.pairs.proofs.Laws.{pairCount-small}
 use Rattle.skeleton.specs.declared.search.Outcome.{Outcome}
 use Rattle.skeleton.specs.declared.search.Outcome.the-variants.{Refused, Done, Paused}
 use Rattle.skeleton.specs.Answers.{searchRefusal, outcomeOf, statusAfter}

@@ -10,7 +10,7 @@ use lib.Dec.{ltb}
 use lib.IntN.{ℤ}
 use lib.ListN.{replicate}
 use Rattle.plane.specs.Marks.{count}
-use Rattle.plane.specs.Pairs.{pairCount}
+use Rattle.pairs.specs.Pairs.{pairCount}
 use Rattle.skeleton.specs.declared.search.Outcome.{Outcome}
 use Rattle.skeleton.specs.declared.search.Outcome.the-variants.{Refused, Done, Paused}
 use Rattle.skeleton.specs.Answers.{outcomeOf, statusAfter}

@@ -5,14 +5,14 @@ ghost use Prim.Native.Nat.{_≤_};
 ghost use lib.ListN.{length, drop, replicate};
 ghost use Rattle.skeleton.specs.Answers.{statusAfter};
 ghost use Rattle.listing.specs.Program.{statusRoom, marksText, listText, answerText};
+use pairs::pair_count;
+use plane::marks::count;
 use reading::read::Reading;
 use reading::read::read;
-use writing::write::write_listing;
-use writing::write::write_refusal;
-use plane::marks::count;
-use plane::pairs::pair_count;
 use skeleton::search::Outcome;
 use skeleton::search::search;
+use writing::write::write_listing;
+use writing::write::write_refusal;
 
 // How many status bytes a list is lent: one for each pair, and none if it has more than 128 marks.
 pub fn status_room(m: &[i32]) -> usize

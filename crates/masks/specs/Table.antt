@@ -17,7 +17,7 @@ use lib.ListN.{length, getD, set}
 use Rattle.plane.specs.Numbers.{allTo}
 use Rattle.plane.specs.Marks.{mark}
 use Rattle.plane.specs.Side.{area2, opposite}
-use Rattle.plane.specs.Pairs.{pairOf}
+use Rattle.pairs.specs.Pairs.{pairOf}
 use Rattle.masks.specs.declared.sets.Set.{Set}
 use Rattle.masks.specs.Sets.{lacks, both}
 use Rattle.masks.specs.Sides.{isMark, leftMark, leftSet}

@@ -3,7 +3,7 @@ ghost use mathlib.Core.Path.{_≡_};
 ghost use Prim.Native.Nat.{_+_, _<_};
 ghost use lib.ListN.{length};
 ghost use Rattle.plane.specs.Marks.{Plate, IsMark};
-ghost use Rattle.plane.specs.Pairs.{pairNumber};
+ghost use Rattle.pairs.specs.Pairs.{pairNumber};
 ghost use Rattle.plane.specs.Hull.{kindOf};
 ghost use Rattle.masks.specs.Sets.{setOf};
 ghost use Rattle.masks.specs.Sides.{leftSet};

@@ -5,7 +5,6 @@ pub mod Marks
 pub mod Bounds
 pub mod Side
 pub mod Bits
-pub mod Pairs
 pub mod Segment
 pub mod Cross
 pub mod Weight
@@ -13,4 +12,3 @@ pub mod Line
 pub mod Edge
 pub mod Hull
 pub mod Triangle
-pub mod Check

@@ -1,10 +1,8 @@
 pub mod Numbers
 pub mod Marks
-pub mod Pairs
 pub mod Side
 pub mod Weight
 pub mod Edge
 pub mod Cross
 pub mod Hull
 pub mod Triangle
-pub mod Check

@@ -5,14 +5,14 @@ use Prim.Native.Nat.{ℕ, _<_}
 use lib.Dec.{eqb}
 use Rattle.plane.specs.Numbers.{allTo, firstOf, firstTo}
 use Rattle.plane.specs.Marks.{mark, sameNumber, samePoint}
-use Rattle.plane.specs.Pairs.{pairOf, nextPair, pairAt}
+use Rattle.pairs.specs.Pairs.{pairOf, nextPair, pairAt}
 use Rattle.plane.specs.Side.{area2, isLeft, isRight, isOn, opposite}
 use Rattle.plane.specs.Weight.{weight}
 use Rattle.plane.specs.Edge.{dot, between, onSegment, clear, emptyEdge}
 use Rattle.plane.specs.Cross.{crosses}
 use Rattle.plane.specs.Hull.{notLeft, notRight, oneSided, hullEdge, innerEdge}
 use Rattle.plane.specs.Triangle.{inside, outside, hollow, emptyTriangle}
-use Rattle.plane.specs.Check.{inRange, isOut, firstOut, differs, hasTwin, firstTwin, verdict}
+use Rattle.refusals.specs.Check.{inRange, isOut, firstOut, differs, hasTwin, firstTwin, verdict}
 use Rattle.striking.specs.Below.{anyBelow, listBelow}
 use Rattle.striking.specs.System.{crossed, due}
 use Rattle.striking.specs.Status.{remaining, allEdges, statusByte, statuses}

@@ -4,7 +4,7 @@ ghost use Prim.Native.Nat.{_<_, _≤_};
 ghost use lib.ListN.{length, getD};
 ghost use Rattle.plates.specs.Plates.{table};
 use libc::STDOUT_FILENO;
-use plane::pairs::pair_count;
+use pairs::pair_count;
 use skeleton::search::Outcome;
 use skeleton::search::search;
 

@@ -8,14 +8,14 @@ use Prim.Native.Nat.{ℕ}
 use lib.Dec.{eqb}
 use lib.ListN.{getD}
 use lib.IntN.{ℤ}
-use Rattle.plane.specs.declared.check.Refusal.{Refusal}
-use Rattle.plane.specs.declared.check.Verdict.{Verdict}
-use Rattle.plane.specs.declared.check.Verdict.the-variants.{Accepted, Refused}
-use Rattle.plane.specs.Pairs.{pairNumber}
+use Rattle.refusals.specs.declared.Refusal.{Refusal}
+use Rattle.refusals.specs.declared.Verdict.{Verdict}
+use Rattle.refusals.specs.declared.Verdict.the-variants.{Accepted, Refused}
+use Rattle.pairs.specs.Pairs.{pairNumber}
 use Rattle.plane.specs.Edge.{emptyEdge}
 use Rattle.plane.specs.Hull.{hullEdge, innerEdge}
 use Rattle.plane.proofs.Laws.Tells.{cond-yes, cond-no}
-use Rattle.plane.proofs.Laws.Pairs.{pair-unique}
+use Rattle.pairs.proofs.Laws.{pair-unique}
 use Rattle.striking.specs.Status.{remaining}
 use Rattle.skeleton.specs.declared.request.Reply.{Reply}
 use Rattle.skeleton.specs.declared.request.Answer.{Answer}

@@ -10,9 +10,9 @@ use lib.Dec.{eqb}
 use lib.IntN.{ℤ}
 use lib.ListN.{length, getD, List·getD-eq-default}
 use Rattle.plane.specs.Marks.{count, IsMark}
-use Rattle.plane.specs.Pairs.{pairCount, pairNumber}
+use Rattle.pairs.specs.Pairs.{pairCount, pairNumber}
 use Rattle.plane.specs.Edge.{emptyEdge}
-use Rattle.plane.proofs.Laws.Pairs.{pairAt-number, pair-below}
+use Rattle.pairs.proofs.Laws.{pairAt-number, pair-below}
 use Rattle.striking.specs.Status.{remaining, allEdges}
 use Rattle.striking.proofs.Below.{length-list, list-at}
 use Rattle.striking.proofs.Remaining.{remaining-not, all-edges}

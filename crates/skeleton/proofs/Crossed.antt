@@ -6,10 +6,10 @@ use mathlib.Core.List.{List}
 use Prim.Native.Nat.{ℕ, _<_}
 use native.Mathlib.Decide.{ℕ-discrete}
 use lib.IntN.{ℤ}
-use Rattle.plane.specs.declared.pairs.Pair.{Pair}
+use Rattle.pairs.specs.declared.Pair.{Pair}
 use Rattle.plane.specs.Marks.{count}
-use Rattle.plane.specs.Pairs.{pairNumber, pairAt}
-use Rattle.plane.proofs.Laws.Pairs.{pairAt-numbered, pairAt-number, pairAt-below}
+use Rattle.pairs.specs.Pairs.{pairNumber, pairAt}
+use Rattle.pairs.proofs.Laws.{pairAt-numbered, pairAt-number, pairAt-below}
 use Rattle.striking.proofs.Tests.{not-both}
 use Rattle.certificates.specs.Certificate.{crossing}
 use Rattle.certificates.specs.Plate.{pairsOf, crossPairs, plate}

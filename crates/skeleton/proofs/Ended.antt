@@ -6,9 +6,9 @@ use mathlib.Core.List.{List}
 use Prim.Native.Nat.{ℕ}
 use native.Mathlib.Omega.{arith}
 use lib.IntN.{ℤ}
-use Rattle.plane.specs.declared.check.Refusal.{Refusal}
-use Rattle.plane.specs.declared.check.Verdict.{Verdict}
-use Rattle.plane.specs.declared.check.Verdict.the-variants.{Accepted, Refused}
+use Rattle.refusals.specs.declared.Refusal.{Refusal}
+use Rattle.refusals.specs.declared.Verdict.{Verdict}
+use Rattle.refusals.specs.declared.Verdict.the-variants.{Accepted, Refused}
 use Rattle.striking.specs.Search.{Result, done, paused, answer8, isAnswer8, search}
 use Rattle.striking.specs.Search as any
 use Rattle.skeleton.specs.declared.search.Outcome.{Outcome}

@@ -5,17 +5,17 @@ use mathlib.Core.List.{List, [], _∷_}
 use Prim.Native.Nat.{ℕ}
 use lib.Dec.{T, eqb}
 use lib.IntN.{ℤ, pos, negsuc}
-use Rattle.plane.specs.declared.check.Refusal.{Refusal}
+use Rattle.refusals.specs.declared.Refusal.{Refusal}
 use Rattle.plane.specs.Numbers.{allTo, firstOf, firstTo}
 use Rattle.plane.specs.Marks.{mark, sameNumber, samePoint}
-use Rattle.plane.specs.Pairs.{pairOf}
+use Rattle.pairs.specs.Pairs.{pairOf}
 use Rattle.plane.specs.Side.{area2, isLeft, isRight, isOn, opposite}
 use Rattle.plane.specs.Weight.{weight}
 use Rattle.plane.specs.Edge.{dot, between, onSegment, clear, emptyEdge}
 use Rattle.plane.specs.Cross.{crosses}
 use Rattle.plane.specs.Hull.{notLeft, notRight, oneSided, hullEdge}
 use Rattle.plane.specs.Triangle.{inside, outside, hollow, emptyTriangle}
-use Rattle.plane.specs.Check.{inRange, isOut, firstOut, differs, hasTwin, firstTwin, verdict}
+use Rattle.refusals.specs.Check.{inRange, isOut, firstOut, differs, hasTwin, firstTwin, verdict}
 use Rattle.striking.specs.Status.{remaining}
 use Rattle.skeleton.specs.declared.request.Reply.{Reply}
 use Rattle.skeleton.specs.declared.request.Reply.the-variants.{Hull, NotEmpty, Certified, Uncertified}

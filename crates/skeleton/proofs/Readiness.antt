@@ -8,14 +8,14 @@ use native.Mathlib.Omega.{arith}
 use lib.Dec.{eqb}
 use lib.IntN.{ℤ}
 use lib.ListN.{length, getD, set, length-set}
-use Rattle.plane.specs.declared.pairs.Pair.{Pair}
+use Rattle.pairs.specs.declared.Pair.{Pair}
 use Rattle.plane.specs.Marks.{count, IsMark}
-use Rattle.plane.specs.Pairs.{pairCount, pairNumber, nextPair, pairAt}
+use Rattle.pairs.specs.Pairs.{pairCount, pairNumber, nextPair, pairAt}
 use Rattle.plane.specs.Edge.{emptyEdge}
 use Rattle.plane.specs.Hull.{oneSided, kindOf}
 use Rattle.plane.specs.declared.hull.Kind.the-variants.{Blocked, Hull, Inner}
 use native.Mathlib.Numerals.{add-one}
-use Rattle.plane.proofs.Laws.Pairs.{pairAt-numbered, pairAt-below, pair-below}
+use Rattle.pairs.proofs.Laws.{pairAt-numbered, pairAt-below, pair-below}
 use Rattle.masks.specs.Table.{Filled}
 use Rattle.striking.specs.System.{System, crossed, due}
 use Rattle.striking.specs.Status.{remaining, allEdges, statusByte}

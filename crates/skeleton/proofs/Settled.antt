@@ -4,10 +4,10 @@ use mathlib.Core.Path.{_≡_, refl, sym, ap, subst}
 use mathlib.Core.Logic.{_↔_, _⊎_, inl, inr, ⊎-elim}
 use Prim.Native.Nat.{ℕ, _≤_, _<_}
 use native.Mathlib.Omega.{arith}
-use Rattle.plane.specs.declared.check.Refusal.{Refusal}
-use Rattle.plane.specs.declared.check.Verdict.{Verdict}
-use Rattle.plane.specs.declared.check.Verdict.the-variants.{Accepted, Refused}
-use Rattle.plane.specs.Check.{refused}
+use Rattle.refusals.specs.declared.Refusal.{Refusal}
+use Rattle.refusals.specs.declared.Verdict.{Verdict}
+use Rattle.refusals.specs.declared.Verdict.the-variants.{Accepted, Refused}
+use Rattle.refusals.specs.Check.{refused}
 use Rattle.skeleton.specs.Answers.{orElse}
 use Rattle.skeleton.specs.Table.{Lowest, None}
 

@@ -6,10 +6,10 @@ use mathlib.Core.List.{List}
 use Prim.Native.Nat.{ℕ, _<_}
 use lib.ListN.{getD}
 use lib.IntN.{ℤ}
-use Rattle.plane.specs.declared.check.Verdict.the-variants.{Accepted}
-use Rattle.plane.specs.Pairs.{pairNumber, pairAt}
+use Rattle.refusals.specs.declared.Verdict.the-variants.{Accepted}
+use Rattle.pairs.specs.Pairs.{pairNumber, pairAt}
 use Rattle.plane.specs.Hull.{innerEdge}
-use Rattle.plane.proofs.Laws.Pairs.{pairAt-numbered, pairAt-number}
+use Rattle.pairs.proofs.Laws.{pairAt-numbered, pairAt-number}
 use Rattle.striking.specs.System.{due}
 use Rattle.striking.specs.Status.{remaining}
 use Rattle.striking.specs.Search.{answer8, isAnswer8, search, remainingSet, byte}

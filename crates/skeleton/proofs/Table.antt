@@ -12,13 +12,13 @@ use borrow.Author.Tests.{eqb-false, ne-eqb, ltb-true, ltb-false, lt-ltb, le-ltb}
 use lib.Dec.{eqb, ltb}
 use lib.ListN.{length, getD}
 use lib.IntN.{ℤ}
-use Rattle.plane.specs.declared.check.Refusal.{Refusal}
-use Rattle.plane.specs.declared.check.Verdict.{Verdict}
-use Rattle.plane.specs.declared.check.Verdict.the-variants.{Accepted, Refused}
+use Rattle.refusals.specs.declared.Refusal.{Refusal}
+use Rattle.refusals.specs.declared.Verdict.{Verdict}
+use Rattle.refusals.specs.declared.Verdict.the-variants.{Accepted, Refused}
 use Rattle.plane.specs.Marks.{Plate, count}
-use Rattle.plane.specs.Pairs.{pairCount}
-use Rattle.plane.proofs.Laws.Check.{refused-exactly, row-small, accepted-plate}
-use Rattle.plane.specs.Check.{refused, verdict}
+use Rattle.pairs.specs.Pairs.{pairCount}
+use Rattle.refusals.proofs.Laws.{refused-exactly, row-small, accepted-plate}
+use Rattle.refusals.specs.Check.{refused, verdict}
 use Rattle.plane.proofs.Laws.Numbers.{first-at, first-past, Seek, found, nowhere, seek}
 use Rattle.plane.proofs.Laws.Tells.{cond-yes, cond-no}
 use Rattle.striking.specs.Search.{done, paused, answer8, search}

@@ -16,11 +16,11 @@ use Prim.Native.Nat.{ℕ, _≤_}
 use native.Mathlib.Omega.{arith}
 use lib.ListN.{getD, length, replicate}
 use lib.IntN.{ℤ}
-use Rattle.plane.specs.declared.check.Refusal.{Refusal}
-use Rattle.plane.specs.declared.check.Verdict.{Verdict}
-use Rattle.plane.specs.declared.check.Verdict.the-variants.{Accepted, Refused}
+use Rattle.refusals.specs.declared.Refusal.{Refusal}
+use Rattle.refusals.specs.declared.Verdict.{Verdict}
+use Rattle.refusals.specs.declared.Verdict.the-variants.{Accepted, Refused}
 use Rattle.plane.specs.Marks.{IsMark}
-use Rattle.plane.specs.Pairs.{pairNumber}
+use Rattle.pairs.specs.Pairs.{pairNumber}
 use Rattle.plane.specs.Hull.{innerEdge}
 use Rattle.striking.specs.Status.{remaining}
 use Rattle.striking.specs.Search.{answer8, search, remainingSet}

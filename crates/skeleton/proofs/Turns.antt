@@ -11,8 +11,8 @@ use native.Mathlib.Numerals.{add-one}
 use native.Mathlib.Omega.{arith}
 use lib.IntN.{ℤ}
 use lib.ListN.{set}
-use Rattle.plane.specs.Pairs.{pairNumber}
-use Rattle.plane.proofs.Laws.Pairs.{pairAt-number}
+use Rattle.pairs.specs.Pairs.{pairNumber}
+use Rattle.pairs.proofs.Laws.{pairAt-number}
 use Rattle.striking.specs.System.{System, crossed, due}
 use Rattle.striking.specs.Status.{remaining}
 use Rattle.striking.specs.Search.{done, paused, answer8, State, going, over, examine, visit, visits, rounds}

@@ -15,15 +15,15 @@ use Prim.Native.Nat.{ℕ}
 use lib.Dec.{eqb, ltb}
 use lib.ListN.{length, getD}
 use lib.IntN.{ℤ}
-use Rattle.plane.specs.declared.check.Refusal.{Refusal}
-use Rattle.plane.specs.declared.check.Verdict.{Verdict}
-use Rattle.plane.specs.declared.check.Verdict.the-variants.{Accepted}
+use Rattle.refusals.specs.declared.Refusal.{Refusal}
+use Rattle.refusals.specs.declared.Verdict.{Verdict}
+use Rattle.refusals.specs.declared.Verdict.the-variants.{Accepted}
 use Rattle.plane.specs.Numbers.{firstTo}
 use Rattle.plane.specs.Marks.{count}
-use Rattle.plane.specs.Pairs.{pairCount, pairNumber}
+use Rattle.pairs.specs.Pairs.{pairCount, pairNumber}
 use Rattle.plane.specs.Edge.{emptyEdge}
 use Rattle.plane.specs.Hull.{hullEdge}
-use Rattle.plane.specs.Check.{refused, verdict}
+use Rattle.refusals.specs.Check.{refused, verdict}
 use Rattle.striking.specs.Status.{remaining}
 use Rattle.striking.specs.Search.{Result, done, paused, answer8, search}
 use Rattle.striking.specs.Search as striking

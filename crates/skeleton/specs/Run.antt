@@ -14,7 +14,7 @@ use lib.ListN.{length, getD}
 use Rattle.plane.specs.declared.hull.Kind.{Kind}
 use Rattle.plane.specs.declared.hull.Kind.the-variants.{Blocked, Hull, Inner}
 use Rattle.plane.specs.Marks.{count, Plate}
-use Rattle.plane.specs.Pairs.{pairCount}
+use Rattle.pairs.specs.Pairs.{pairCount}
 use Rattle.masks.specs.Table.{Table}
 use Rattle.striking.specs.Below.{listBelow}
 use Rattle.striking.specs.Status.{remaining}

@@ -10,13 +10,13 @@ use mathlib.Core.List.{List}
 use Prim.Native.Nat.{ℕ, _≤_, _<_}
 use lib.ListN.{length, getD}
 use lib.IntN.{ℤ}
-use Rattle.plane.specs.declared.check.Refusal.{Refusal}
-use Rattle.plane.specs.declared.check.Verdict.{Verdict}
+use Rattle.refusals.specs.declared.Refusal.{Refusal}
+use Rattle.refusals.specs.declared.Verdict.{Verdict}
 use Rattle.plane.specs.Marks.{count}
-use Rattle.plane.specs.Pairs.{pairCount}
+use Rattle.pairs.specs.Pairs.{pairCount}
 use Rattle.plane.specs.Edge.{emptyEdge}
 use Rattle.plane.specs.Hull.{hullEdge, innerEdge}
-use Rattle.plane.specs.Check.{verdict}
+use Rattle.refusals.specs.Check.{verdict}
 use Rattle.striking.specs.Status.{remaining}
 use Rattle.striking.specs.Search.{answer8, search}
 use Rattle.skeleton.specs.declared.request.Reply.{Reply}

@@ -3,7 +3,7 @@ ghost use mathlib.Core.Path.{_≡_};
 ghost use Prim.Native.Nat.{_≤_, _<_};
 ghost use lib.ListN.{length};
 ghost use Rattle.plane.specs.Marks.{Plate, IsMark, count};
-ghost use Rattle.plane.specs.Pairs.{pairCount};
+ghost use Rattle.pairs.specs.Pairs.{pairCount};
 ghost use mathlib.Core.Bool.{true};
 ghost use Rattle.plane.specs.Edge.{emptyEdge};
 ghost use Rattle.striking.specs.Status.{remaining, allEdges};
@@ -11,18 +11,18 @@ ghost use Rattle.certificates.specs.Certificate.{firstCertificate};
 ghost use Rattle.certificates.specs.Plate.{edgesOf, plate};
 ghost use Rattle.skeleton.specs.Run.{commonByte, common};
 ghost use Rattle.skeleton.specs.Answers.{firstAbove, byteRow, pairRow, requestRefusal, without, answerWith, answerIn, answerOf};
+use super::search::check_search;
+use super::search::mark_edges;
 use certificates::certificate::Certificate;
 use certificates::certificate::Pick;
 use certificates::certificate::certificate_of;
 use certificates::certificate::first_certificate;
 use certificates::rows::fill_rows;
-use super::search::check_search;
-use super::search::mark_edges;
-use plane::check::Refusal;
-use plane::check::Verdict;
 use plane::hull::Kind;
 use plane::hull::kind_of;
 use plane::marks::count;
+use refusals::Refusal;
+use refusals::Verdict;
 
 pub enum Reply {
     // Rows 1 to 7 of the table.

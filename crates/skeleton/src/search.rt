@@ -4,10 +4,10 @@ ghost use mathlib.Core.Bool.{true, false};
 ghost use Prim.Native.Nat.{suc, _+_, _^_, _<_, _≤_};
 ghost use lib.ListN.{length, set, replicate};
 ghost use Rattle.plane.specs.Marks.{Plate, IsMark, count};
-ghost use Rattle.plane.specs.Pairs.{pairCount, pairNumber, pairAt};
+ghost use Rattle.pairs.specs.Pairs.{pairCount, pairNumber, pairAt};
 ghost use Rattle.plane.specs.Edge.{emptyEdge};
 ghost use Rattle.plane.specs.Hull.{innerEdge};
-ghost use Rattle.plane.specs.declared.check.Verdict.{Verdict};
+ghost use Rattle.refusals.specs.declared.Verdict.{Verdict};
 ghost use Rattle.striking.specs.System.{due};
 ghost use Rattle.striking.specs.Status.{remaining, allEdges, statusByte, statuses};
 ghost use Rattle.striking.specs.Search.{going, examine, visit, visits, searchFrom, bytesAt, search};
@@ -24,14 +24,14 @@ use certificates::rows::part;
 use masks::sets::is_none;
 use masks::table::left_set;
 use masks::table::store_pair;
-use plane::check::Refusal;
-use plane::check::Verdict;
-use plane::check::check_list;
+use pairs::Pair;
+use pairs::next_pair;
+use pairs::pair_count;
 use plane::hull::Kind;
 use plane::marks::count;
-use plane::pairs::Pair;
-use plane::pairs::next_pair;
-use plane::pairs::pair_count;
+use refusals::Refusal;
+use refusals::Verdict;
+use refusals::check_list;
 
 pub enum Outcome {
     // Rows 1 to 5 and 8 of the table.

@@ -4,7 +4,7 @@ use mathlib.Core.Path.{_≡_, refl}
 use mathlib.Core.Bool.{true, false}
 use mathlib.Core.List.{List, [], _∷_, _++_}
 use Prim.Native.Nat.{ℕ}
-use Rattle.plane.specs.Pairs.{pairAt, nextPair}
+use Rattle.pairs.specs.Pairs.{pairAt, nextPair}
 use Rattle.writing.specs.Digits.{digitsIn, digits}
 use Rattle.writing.specs.Listing.{line, doneText, pausedText, outcomeText, refusedText, pairText, pairTexts, listingText}
 

@@ -7,8 +7,8 @@ use native.Mathlib.Numerals.{add-one}
 use native.Mathlib.Decide.{ℕ-discrete}
 use native.Mathlib.Omega.{arith}
 use lib.ListN.{length, getD, length-append}
-use Rattle.plane.specs.Pairs.{pairCount, pairAt}
-use Rattle.plane.proofs.Laws.Pairs.{pairCount-small, pairAt-numbered, pairAt-below}
+use Rattle.pairs.specs.Pairs.{pairCount, pairAt}
+use Rattle.pairs.proofs.Laws.{pairCount-small, pairAt-numbered, pairAt-below}
 use Rattle.writing.specs.Digits.{digits}
 use Rattle.writing.specs.Listing.{doneWord, pausedWord, refusedWord, possibleWord, certainWord, line, doneText, pausedText, outcomeText, refusedText, pairText, pairTexts, pairsText, listingText}
 use Rattle.writing.proofs.Digits.{digits-length}

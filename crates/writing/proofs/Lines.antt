@@ -7,7 +7,7 @@ use Prim.Native.Nat.{ℕ, _+_}
 use native.Mathlib.Numerals.{add-one}
 use borrow.Author.Tests.{eq-eqb, ne-eqb}
 use lib.ListN.{getD}
-use Rattle.plane.specs.Pairs.{pairAt}
+use Rattle.pairs.specs.Pairs.{pairAt}
 use Rattle.plane.proofs.Laws.Tells.{cond-yes, cond-no}
 use Rattle.writing.specs.Digits.{digits}
 use Rattle.writing.specs.Listing.{doneWord, pausedWord, refusedWord, possibleWord, certainWord, line, doneText, pausedText, outcomeText, refusedText, pairText, pairTexts, pairsText, listingText}

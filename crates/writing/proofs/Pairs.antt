@@ -8,9 +8,9 @@ use native.Mathlib.Numerals.{add-one}
 use native.Mathlib.Decide.{decLt}
 use native.Mathlib.Omega.{arith}
 use lib.ListN.{length, getD, length-append}
-use Rattle.plane.specs.declared.pairs.Pair.{Pair}
-use Rattle.plane.specs.Pairs.{pairCount, nextPair, pairAt}
-use Rattle.plane.proofs.Laws.Pairs.{pairAt-numbered, pairAt-below}
+use Rattle.pairs.specs.declared.Pair.{Pair}
+use Rattle.pairs.specs.Pairs.{pairCount, nextPair, pairAt}
+use Rattle.pairs.proofs.Laws.{pairAt-numbered, pairAt-below}
 use Rattle.writing.specs.Listing.{pairText, pairTexts, Room, Puts}
 use Rattle.writing.proofs.Places.{room-rest, puts-is, puts-then}
 use Rattle.writing.proofs.Lines.{pairs-more}

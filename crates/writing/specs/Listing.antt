@@ -18,7 +18,7 @@ use mathlib.Core.List.{List, [], _∷_, _++_}
 use Prim.Native.Nat.{ℕ, zero, suc, _+_, _≤_}
 use lib.Dec.{eqb}
 use lib.ListN.{length, take, drop, getD}
-use Rattle.plane.specs.Pairs.{pairCount, pairAt}
+use Rattle.pairs.specs.Pairs.{pairCount, pairAt}
 use Rattle.writing.specs.Digits.{digits}
 
 -- ---- the words

@@ -6,12 +6,12 @@ ghost use mathlib.Core.Path.{_≡_};
 ghost use mathlib.Core.List.{[], _∷_, _++_};
 ghost use Prim.Native.Nat.{_<_, _≤_};
 ghost use lib.ListN.{length, drop};
-ghost use Rattle.plane.specs.Pairs.{pairCount};
+ghost use Rattle.pairs.specs.Pairs.{pairCount};
 ghost use Rattle.writing.specs.Digits.{digit as digitByte, digits};
 ghost use Rattle.writing.specs.Listing.{line, outcomeText, refusedText, pairText, pairsText, listingText, Room, Puts};
-use plane::pairs::Pair;
-use plane::pairs::next_pair;
-use plane::pairs::pair_count;
+use pairs::Pair;
+use pairs::next_pair;
+use pairs::pair_count;
 
 const SPACE: u8 = b' ';
 

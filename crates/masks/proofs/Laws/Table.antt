@@ -14,10 +14,10 @@ use lib.ListN.{length, getD, set, replicate, length-set, length-replicate, getD-
 use lib.Seq.{getD-set-same, getD-set-other, ext-getD}
 use Rattle.plane.specs.Marks.{count, mark}
 use Rattle.plane.specs.Side.{leftOf}
-use Rattle.plane.specs.Pairs.{pairCount, pairNumber, pairOf}
+use Rattle.pairs.specs.Pairs.{pairCount, pairNumber, pairOf}
 use Rattle.plane.proofs.Laws.Tells.{tells-false, cond-yes, cond-no}
 use Rattle.plane.proofs.Laws.Side.{leftOf-tells, same}
-use Rattle.plane.proofs.Laws.Pairs.{pair-unique, pairOf-up, pairOf-down, pairOf-below}
+use Rattle.pairs.proofs.Laws.{pair-unique, pairOf-up, pairOf-down, pairOf-below}
 use Rattle.masks.specs.declared.sets.Set.{Set}
 use Rattle.masks.specs.Sets.{setOf}
 use Rattle.masks.specs.Sides.{isMark, leftMark, leftSet}

@@ -5,7 +5,7 @@ use Prim.Native.Nat.{ℕ, _-_, _≤_}
 use native.Mathlib.Omega.{arith}
 use borrow.Author.Needs.{needs}
 use lib.ListN.{length, length-replicate}
-use Rattle.plane.specs.Pairs.{pairAt}
+use Rattle.pairs.specs.Pairs.{pairAt}
 use Rattle.striking.specs.Status.{remaining}
 use Rattle.certificates.specs.Plate.{edgesOf}
 use Rattle.certificates.specs.Rows.{Rows, below}

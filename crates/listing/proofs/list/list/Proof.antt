@@ -4,7 +4,7 @@ use Prim.Native.Nat.{ℕ, _≤_}
 use native.Mathlib.Omega.{arith}
 use borrow.Author.Needs.{needs}
 use lib.ListN.{length}
-use Rattle.plane.specs.Pairs.{pairCount}
+use Rattle.pairs.specs.Pairs.{pairCount}
 use Rattle.listing.proofs.Listed.{done-listable, paused-listable, listed-refused, listed-done, listed-paused, stands-as}
 use Rattle.listing.proofs.list.list.Statement.{statement}
 use Rattle.listing.proofs.list.list.Tie as tie

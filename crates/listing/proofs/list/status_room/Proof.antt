@@ -3,7 +3,7 @@ use mathlib.Core.Path.{sym, ap, _∙_, subst}
 use Prim.Native.Nat.{ℕ, _≤_, _<_}
 use borrow.Author.Needs.{needs}
 use borrow.Author.Tests.{lt-ltb, le-ltb}
-use Rattle.plane.specs.Pairs.{pairCount}
+use Rattle.pairs.specs.Pairs.{pairCount}
 use Rattle.listing.specs.Program.{statusRoom}
 use Rattle.plane.proofs.Laws.Tells.{cond-yes, cond-no}
 use Rattle.listing.proofs.list.status_room.Statement.{statement}

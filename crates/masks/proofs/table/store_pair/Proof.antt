@@ -3,7 +3,7 @@ use mathlib.Core.Path.{sym, ap, _∙_, subst}
 use mathlib.Core.List.{List}
 use Prim.Native.Nat.{ℕ, _+_}
 use native.Mathlib.Omega.{arith}
-use Rattle.plane.specs.Pairs.{pairNumber}
+use Rattle.pairs.specs.Pairs.{pairNumber}
 use Rattle.masks.specs.Table.{Filled, putEntry}
 use Rattle.masks.proofs.Laws.Sides.{kind-found}
 use Rattle.masks.proofs.Laws.Table.{fill-next}

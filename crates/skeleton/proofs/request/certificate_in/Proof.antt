@@ -6,8 +6,8 @@ use lib.ListN.{length, take, replicate, length-replicate}
 use lib.Seq.{length-take-le}
 use lib.IntN.{ℤ}
 use Rattle.plane.specs.Marks.{Plate, count}
-use Rattle.plane.specs.Pairs.{pairCount}
-use Rattle.plane.proofs.Laws.Pairs.{pairCount-small}
+use Rattle.pairs.specs.Pairs.{pairCount}
+use Rattle.pairs.proofs.Laws.{pairCount-small}
 use Rattle.skeleton.proofs.request.certificate_in.Statement.{statement}
 use Rattle.skeleton.proofs.request.certificate_in.Tie as tie
 

@@ -4,7 +4,7 @@ use Prim.Native.Nat.{ℕ, _<_, _≤_}
 use borrow.Author.Needs.{needs}
 use borrow.Author.Tests.{lt-ltb, le-ltb}
 use lib.ListN.{length}
-use Rattle.plane.specs.Check.{refused}
+use Rattle.refusals.specs.Check.{refused}
 use Rattle.skeleton.specs.Answers.{byteRow}
 use Rattle.plane.proofs.Laws.Tells.{cond-yes, cond-no}
 use Rattle.skeleton.proofs.request.check_bytes.Statement.{statement}

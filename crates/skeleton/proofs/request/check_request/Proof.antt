@@ -1,6 +1,6 @@
 -- `request::check_request` meets its contract: a later row is asked where no earlier one applies. Assumes nothing.
 use mathlib.Core.Path.{sym, _∙_, ap}
-use Rattle.plane.specs.declared.check.Verdict.{Verdict}
+use Rattle.refusals.specs.declared.Verdict.{Verdict}
 use Rattle.skeleton.specs.Answers.{orElse, byteRow, pairRow, requestRefusal}
 use borrow.Author.Needs.{needs}
 use Rattle.skeleton.proofs.request.check_request.Statement.{statement}

@@ -1,7 +1,7 @@
 -- `request::request` meets its contract. Assumes nothing.
 use mathlib.Core.Path.{sym, ap, _∙_}
 use borrow.Author.Needs.{needs}
-use Rattle.plane.specs.declared.check.Verdict.{Verdict}
+use Rattle.refusals.specs.declared.Verdict.{Verdict}
 use Rattle.striking.specs.Status.{remaining}
 use Rattle.certificates.specs.Plate.{edgesOf}
 use Rattle.skeleton.specs.Answers.{unlessRefused, answerIn, answerOf}

@@ -1,8 +1,8 @@
 -- `search::check_buffer` meets its contract. Assumes nothing.
 use mathlib.Core.Path.{sym, _∙_, ap}
 use borrow.Author.Tests.{eq-eqb, ne-eqb}
-use Rattle.plane.specs.Pairs.{pairCount}
-use Rattle.plane.specs.Check.{refused}
+use Rattle.pairs.specs.Pairs.{pairCount}
+use Rattle.refusals.specs.Check.{refused}
 use Rattle.skeleton.specs.Answers.{bufferRow}
 use Rattle.plane.proofs.Laws.Tells.{cond-yes, cond-no}
 use Rattle.plane.specs.Marks.{count}

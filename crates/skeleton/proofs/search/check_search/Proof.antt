@@ -1,8 +1,8 @@
 -- `search::check_search` meets its contract: a later row is asked where no earlier one applies. Assumes nothing.
 use mathlib.Core.Path.{sym, _∙_, ap}
-use Rattle.plane.specs.declared.check.Verdict.{Verdict}
+use Rattle.refusals.specs.declared.Verdict.{Verdict}
 use Rattle.skeleton.specs.Answers.{orElse, bufferRow, searchRefusal}
-use Rattle.plane.proofs.Laws.Check.{accepted-plate}
+use Rattle.refusals.proofs.Laws.{accepted-plate}
 use borrow.Author.Needs.{needs}
 use Rattle.skeleton.proofs.search.check_search.Statement.{statement}
 use Rattle.skeleton.proofs.search.check_search.Tie as tie

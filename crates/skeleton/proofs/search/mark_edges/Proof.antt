@@ -5,7 +5,7 @@ use Prim.Native.Nat.{ℕ, _-_, _≤_}
 use native.Mathlib.Omega.{arith}
 use borrow.Author.Needs.{needs}
 use lib.ListN.{length}
-use Rattle.plane.specs.Pairs.{pairAt}
+use Rattle.pairs.specs.Pairs.{pairAt}
 use Rattle.masks.specs.Table.{Filled}
 use Rattle.masks.proofs.Laws.Table.{fill-end}
 use Rattle.striking.specs.Status.{allEdges}

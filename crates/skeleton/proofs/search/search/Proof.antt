@@ -1,7 +1,7 @@
 -- `search::search` meets its contract. Assumes nothing.
 use mathlib.Core.Path.{sym, ap, _∙_}
 use borrow.Author.Needs.{needs}
-use Rattle.plane.specs.declared.check.Verdict.{Verdict}
+use Rattle.refusals.specs.declared.Verdict.{Verdict}
 use Rattle.striking.specs.Search as striking
 use Rattle.certificates.specs.Plate.{plate}
 use Rattle.skeleton.specs.Answers.{outcomeAfter, outcomeOf, bytesAfter, statusAfter}

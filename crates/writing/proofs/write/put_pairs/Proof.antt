@@ -5,7 +5,7 @@ use Prim.Native.Nat.{_≤_, _-_}
 use native.Mathlib.Omega.{arith}
 use lib.ListN.{length}
 use denote.Ref.{now}
-use Rattle.plane.specs.Pairs.{pairCount, pairAt}
+use Rattle.pairs.specs.Pairs.{pairCount, pairAt}
 use Rattle.writing.specs.Listing.{pairTexts, Puts}
 use Rattle.writing.proofs.Lines.{pairs-none}
 use Rattle.writing.proofs.Pairs.{first-is, next-is, pair-ends, room-pair, puts-pair}
