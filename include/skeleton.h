@@ -32,6 +32,8 @@
  * A list or a buffer is a pointer and how many elements it has. A null pointer must have length 0, and is an empty list or buffer: a null
  * result buffer is too short. Otherwise the pointer is aligned as its type asks and that many elements are the caller's; no buffer that is
  * written overlaps another one of the same call. Nothing is read or written outside of them, and nothing is kept after the call.
+ * skeleton_search and skeleton_certificate take 280,000 bytes of stack, whatever the plate; the others next to none. All may be called from
+ * several threads at once.
  *
  * An example:
  *
