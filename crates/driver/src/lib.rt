@@ -21,11 +21,24 @@ use skeleton::search::search;
 
 const VERSION: u32 = 1;
 
-// The result buffer is too short.
+// Status numbers beside those of 01's table: the result buffer is too short; two numbers that are no pair of marks.
 const SHORT: u32 = 100;
 
-// Two numbers that are no pair of marks.
 const NO_PAIR: u32 = 101;
+
+// How a search ended.
+const DONE: u64 = 0;
+
+const PAUSED: u64 = 1;
+
+// What a pair is.
+const HULL: u64 = 0;
+
+const NOT_EMPTY: u64 = 1;
+
+const CERTIFIED: u64 = 2;
+
+const NONE: u64 = 3;
 
 // ---- the result buffer
 
@@ -53,15 +66,7 @@ fn tell(result: &mut [u64], number: u32, numbers: &[u64]) -> u32
     number
 }
 
-// ---- the functions of include/skeleton.h
-
-// The version of the interface.
-#[no_mangle]
-pub extern "C" fn skeleton_version() -> u32
-    ensures version { λ r. ⌜ r ≡ version ⌝ }
-{
-    VERSION
-}
+// ---- the search
 
 // Tells how a search ended.
 fn tell_outcome(result: &mut [u64], o: Outcome) -> u32
@@ -75,11 +80,11 @@ fn tell_outcome(result: &mut [u64], o: Outcome) -> u32
             tell(result, number, &numbers)
         }
         Outcome::Done(e) => {
-            let numbers = [0, e as u64];
+            let numbers = [DONE, e as u64];
             tell(result, 0, &numbers)
         }
         Outcome::Paused(e) => {
-            let numbers = [1, e as u64];
+            let numbers = [PAUSED, e as u64];
             tell(result, 0, &numbers)
         }
     }
@@ -104,7 +109,9 @@ pub extern "C" fn skeleton_search(
     tell_outcome(result, o)
 }
 
-// The numbers of a certificate, behind one that says what it is.
+// ---- the certificate request
+
+// The numbers of a certificate, behind one that says what the pair is.
 fn certificate_numbers(first: u64, c: Certificate) -> [u64; 7]
     ensures numbers { λ r. ⌜ r ≡ certificateNumbers first c ⌝ }
 {
@@ -132,19 +139,19 @@ fn tell_answer(result: &mut [u64], reply: Reply, c: Certificate) -> u32
             tell(result, number, &numbers)
         }
         Reply::Hull => {
-            let numbers = certificate_numbers(0, c);
+            let numbers = certificate_numbers(HULL, c);
             tell(result, 0, &numbers)
         }
         Reply::NotEmpty => {
-            let numbers = certificate_numbers(1, c);
+            let numbers = certificate_numbers(NOT_EMPTY, c);
             tell(result, 0, &numbers)
         }
         Reply::Certified => {
-            let numbers = certificate_numbers(2, c);
+            let numbers = certificate_numbers(CERTIFIED, c);
             tell(result, 0, &numbers)
         }
         Reply::Uncertified => {
-            let numbers = certificate_numbers(3, c);
+            let numbers = certificate_numbers(NONE, c);
             tell(result, 0, &numbers)
         }
     }
@@ -167,6 +174,8 @@ pub extern "C" fn skeleton_certificate(
     let c = x.certificate;
     tell_answer(result, reply, c)
 }
+
+// ---- numbers alone
 
 // Whether (a, b) is a pair of at most 128 marks.
 fn is_pair(a: usize, b: usize) -> bool
@@ -205,4 +214,12 @@ pub extern "C" fn skeleton_longest_budget(n: usize, result: &mut [u64]) -> u32
     let k = pair_count(n) as u64;
     let numbers = [k * (k + 1) / 2];
     tell(result, 0, &numbers)
+}
+
+// The version of the interface.
+#[no_mangle]
+pub extern "C" fn skeleton_version() -> u32
+    ensures version { λ r. ⌜ r ≡ version ⌝ }
+{
+    VERSION
 }
