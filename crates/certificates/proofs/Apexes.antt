@@ -19,10 +19,10 @@ use Rattle.plane.specs.Weight.{weight}
 use Rattle.plane.proofs.Laws.Tells.{tells-yes, tells-false, cond-yes, cond-no}
 use Rattle.plane.proofs.Laws.Side.{off, zswap, leftOf-tells, rightOf-tells, onLine-tells}
 use Rattle.plane.proofs.Laws.Bounds.{rd, back}
-use Rattle.masks.specs.declared.sets.Set.{Set}
-use Rattle.masks.specs.Sets.{setOf, has}
+use Rattle.sets.specs.declared.Set.{Set}
+use Rattle.sets.specs.Sets.{setOf, has}
 use Rattle.masks.specs.Table.{noneLeft, splitMark}
-use Rattle.masks.proofs.Laws.Sets.{has-set}
+use Rattle.sets.proofs.Laws.Sets.{has-set}
 use Rattle.masks.proofs.Laws.Sides.{left-right}
 use Rattle.masks.proofs.Laws.Triangle.{hollow-left, hollow-right}
 use Rattle.masks.proofs.Laws.Cross.{split-crosses}

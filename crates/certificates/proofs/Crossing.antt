@@ -20,13 +20,13 @@ use Rattle.plane.proofs.Laws.Numbers.{all-miss, all-no}
 use Rattle.plane.proofs.Laws.Side.{L, leftOf-tells, rightOf-tells}
 use Rattle.pairs.proofs.Laws.{pairAt-numbered, pairAt-below}
 use Rattle.plane.proofs.Laws.Cross.{crosses-ends, crosses-tells}
-use Rattle.masks.specs.declared.sets.Set.{Set}
-use Rattle.masks.specs.Sets.{setOf, has, lacks, none, both, without}
+use Rattle.sets.specs.declared.Set.{Set}
+use Rattle.sets.specs.Sets.{setOf, has, lacks, none, both, without}
 use Rattle.masks.specs.Sides.{leftMark, leftSet}
 use Rattle.masks.specs.Table.{splitMark}
-use Rattle.masks.proofs.Laws.Sets.{both-sets, none-set}
-use Rattle.masks.proofs.Laws.Members.{first-before, has-rest}
-use Rattle.masks.proofs.Laws.Words.{without-at, without-off}
+use Rattle.sets.proofs.Laws.Sets.{both-sets, none-set}
+use Rattle.sets.proofs.Laws.Members.{first-before, has-rest}
+use Rattle.sets.proofs.Laws.Words.{without-at, without-off}
 use Rattle.masks.proofs.Laws.Sides.{Left, left-right, left-mark, left-tells, has-left}
 use Rattle.masks.proofs.Laws.Cross.{split-crosses}
 use Rattle.striking.specs.System.{crossed}

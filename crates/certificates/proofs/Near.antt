@@ -17,12 +17,12 @@ use Rattle.pairs.specs.Pairs.{pairNumber}
 use Rattle.plane.specs.Edge.{emptyEdge}
 use Rattle.plane.proofs.Laws.Tells.{cond-yes, cond-no}
 use Rattle.pairs.proofs.Laws.{pair-unique}
-use Rattle.masks.specs.declared.sets.Set.{Set}
-use Rattle.masks.specs.Sets.{setOf, has, including, without}
+use Rattle.sets.specs.declared.Set.{Set}
+use Rattle.sets.specs.Sets.{setOf, has, including, without}
 use Rattle.masks.specs.Sides.{isMark}
-use Rattle.masks.proofs.Laws.Numbers.{split}
-use Rattle.masks.proofs.Laws.Words.{word-empty, without-at, without-off}
-use Rattle.masks.proofs.Laws.Sets.{set-words, has-set, set-same, including-at, including-off}
+use Rattle.sets.proofs.Laws.Numbers.{split}
+use Rattle.sets.proofs.Laws.Words.{word-empty, without-at, without-off}
+use Rattle.sets.proofs.Laws.Sets.{set-words, has-set, set-same, including-at, including-off}
 use Rattle.masks.proofs.Laws.Sides.{is-mark}
 use Rattle.striking.specs.Status.{remaining}
 use Rattle.striking.proofs.Tests.{not-both, both, second-of}

@@ -10,11 +10,11 @@ use native.Mathlib.Omega.{arith}
 use lib.IntN.{ℤ}
 use Rattle.plane.specs.Numbers.{firstTo}
 use Rattle.plane.specs.Marks.{count, IsMark}
-use Rattle.masks.specs.declared.sets.Set.{Set}
-use Rattle.masks.specs.Sets.{setOf, has, without}
-use Rattle.masks.proofs.Laws.Words.{without-at, without-off}
-use Rattle.masks.proofs.Laws.Sets.{has-set}
-use Rattle.masks.proofs.Laws.Members.{first-member, first-before, has-rest, next-later}
+use Rattle.sets.specs.declared.Set.{Set}
+use Rattle.sets.specs.Sets.{setOf, has, without}
+use Rattle.sets.proofs.Laws.Words.{without-at, without-off}
+use Rattle.sets.proofs.Laws.Sets.{has-set}
+use Rattle.sets.proofs.Laws.Members.{first-member, first-before, has-rest, next-later}
 use Rattle.striking.proofs.Tests.{not-both}
 use Rattle.certificates.specs.declared.certificate.Pick.{Pick}
 use Rattle.certificates.specs.declared.certificate.Pick.the-variants.{Nothing, Apexes}

@@ -25,8 +25,8 @@ use Rattle.plane.specs.Marks.{count, mark, IsMark}
 use Rattle.pairs.specs.Pairs.{pairNumber}
 use Rattle.plane.specs.Weight.{weight}
 use Rattle.plane.specs.Edge.{emptyEdge}
-use Rattle.masks.specs.declared.sets.Set.{Set}
-use Rattle.masks.specs.Sets.{setOf, lacks, both}
+use Rattle.sets.specs.declared.Set.{Set}
+use Rattle.sets.specs.Sets.{setOf, lacks, both}
 use Rattle.masks.specs.Sides.{isMark, leftMark}
 use Rattle.masks.specs.Table.{noneLeft, splitMark}
 use Rattle.striking.specs.Status.{remaining}

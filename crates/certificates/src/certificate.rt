@@ -5,23 +5,23 @@ ghost use Prim.Native.Nat.{_<_, _≤_};
 ghost use Rattle.plane.specs.Marks.{Plate, IsMark};
 ghost use Rattle.plane.specs.Edge.{emptyEdge};
 ghost use Rattle.striking.specs.Status.{remaining};
-ghost use Rattle.masks.specs.Sets.{setOf};
+ghost use Rattle.sets.specs.Sets.{setOf};
 ghost use Rattle.masks.specs.Table.{Table, splitMark};
 ghost use Rattle.certificates.specs.Certificate.{firstCertificate, certificateOf};
 ghost use Rattle.certificates.specs.Plate.{edgesOf};
 ghost use Rattle.certificates.specs.Rows.{Rows, candidate, rightCandidate, goesWith, Apart};
 use super::rows::row;
-use masks::sets::Set;
-use masks::sets::first_of;
-use masks::sets::has_mark;
-use masks::sets::meet;
-use masks::sets::rest_of;
 use masks::table::left_set;
 use masks::table::none_left;
 use masks::table::splits;
 use pairs::pair_of;
 use plane::marks::mark;
 use plane::weight::weight;
+use sets::Set;
+use sets::first_of;
+use sets::has_mark;
+use sets::meet;
+use sets::rest_of;
 
 // The two apexes, and the pair numbers of the four sides in the order pr, qr, ps, qs.
 pub struct Certificate {

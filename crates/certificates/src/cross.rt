@@ -9,12 +9,12 @@ ghost use Rattle.masks.specs.Table.{Table};
 ghost use Rattle.certificates.specs.Plate.{edgesOf, plate};
 ghost use Rattle.certificates.specs.Rows.{Rows, Clean, crossedFrom};
 use super::rows::row;
-use masks::sets::first_of;
-use masks::sets::is_none;
-use masks::sets::meet;
-use masks::sets::rest_of;
 use masks::table::left_set;
 use masks::table::splits;
+use sets::first_of;
+use sets::is_none;
+use sets::meet;
+use sets::rest_of;
 
 // Some edge of the set from r, a mark left of p to q, crosses (p, q).
 fn is_crossed_from(m: &[i32], st: &[u8], t: &[u64], d: &[u64], p: usize, q: usize, r: usize) -> bool

@@ -9,11 +9,11 @@ ghost use Rattle.pairs.specs.Pairs.{pairCount, pairNumber};
 ghost use Rattle.striking.specs.Status.{remaining};
 ghost use Rattle.certificates.specs.Plate.{edgesOf};
 ghost use Rattle.certificates.specs.Rows.{rowAt, putRow, Rows, below, Clean};
-use masks::sets::Set;
-use masks::sets::add;
-use masks::sets::remove;
 use pairs::Pair;
 use pairs::next_pair;
+use sets::Set;
+use sets::add;
+use sets::remove;
 
 // The row of mark p.
 pub fn row(d: &[u64], p: usize) -> Set

@@ -1,9 +1,4 @@
 -- The laws of sets and of the table, which the layers above use instead of the definitions' text.
-pub mod Numbers
-pub mod Words
-pub mod Lowest
-pub mod Sets
-pub mod Members
 pub mod Sides
 pub mod Table
 pub mod Triangle

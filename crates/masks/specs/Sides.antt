@@ -16,10 +16,10 @@ use Rattle.plane.specs.Side.{leftOf}
 use Rattle.plane.specs.Edge.{clear, emptyEdge}
 use Rattle.plane.specs.declared.hull.Kind.{Kind}
 use Rattle.plane.specs.declared.hull.Kind.the-variants.{Blocked, Hull, Inner}
-use Rattle.masks.specs.declared.sets.Set.{Set}
+use Rattle.sets.specs.declared.Set.{Set}
 use Rattle.masks.specs.declared.sides.Pass.{Pass}
 use Rattle.masks.specs.declared.sides.Sides.{Sides}
-use Rattle.masks.specs.Sets.{word, setOf, none}
+use Rattle.sets.specs.Sets.{word, setOf, none}
 
 unfoldable pub isMark : List ℤ → ℕ → Bool
 isMark m i = ltb i (count m)

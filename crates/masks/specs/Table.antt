@@ -18,8 +18,8 @@ use Rattle.plane.specs.Numbers.{allTo}
 use Rattle.plane.specs.Marks.{mark}
 use Rattle.plane.specs.Side.{area2, opposite}
 use Rattle.pairs.specs.Pairs.{pairOf}
-use Rattle.masks.specs.declared.sets.Set.{Set}
-use Rattle.masks.specs.Sets.{lacks, both}
+use Rattle.sets.specs.declared.Set.{Set}
+use Rattle.sets.specs.Sets.{lacks, both}
 use Rattle.masks.specs.Sides.{isMark, leftMark, leftSet}
 
 abbrev pub place : ℕ → ℕ → ℕ

@@ -6,10 +6,8 @@ ghost use Prim.Native.Nat.{_+_, _*_, _-_, _^_, _<_, _≤_, min};
 ghost use Rattle.plane.specs.Marks.{Plate, IsMark, count, mark};
 ghost use Rattle.plane.specs.Side.{side};
 ghost use Rattle.plane.specs.Edge.{clear};
-ghost use Rattle.masks.specs.Sets.{bit};
+ghost use Rattle.sets.specs.Sets.{bit};
 ghost use Rattle.masks.specs.Sides.{Passed, Found, kindBy};
-use super::sets::Set;
-use super::sets::is_none;
 use plane::edge::is_between;
 use plane::hull::Kind;
 use plane::marks::count;
@@ -18,6 +16,8 @@ use plane::side::is_left;
 use plane::side::is_on;
 use plane::side::is_right;
 use plane::side::side;
+use sets::Set;
+use sets::is_none;
 
 pub struct Pass {
     pub left: u64,

@@ -5,16 +5,16 @@ ghost use lib.ListN.{length};
 ghost use Rattle.plane.specs.Marks.{Plate, IsMark};
 ghost use Rattle.pairs.specs.Pairs.{pairNumber};
 ghost use Rattle.plane.specs.Hull.{kindOf};
-ghost use Rattle.masks.specs.Sets.{setOf};
+ghost use Rattle.sets.specs.Sets.{setOf};
 ghost use Rattle.masks.specs.Sides.{leftSet};
 ghost use Rattle.masks.specs.Table.{putEntry, Table, Filled, noneLeft, splitMark};
-use super::sets::Set;
-use super::sets::is_none;
-use super::sets::join;
-use super::sets::meet;
 use super::sides::kind_by;
 use super::sides::sides_of;
 use plane::hull::Kind;
+use sets::Set;
+use sets::is_none;
+use sets::join;
+use sets::meet;
 
 // Writes s for (p, q).
 fn put_entry(t: &mut [u64], p: usize, q: usize, s: Set)

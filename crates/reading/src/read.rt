@@ -20,7 +20,7 @@ pub enum Reading {
 const DASH_BUDGET: u32 = 1000;
 
 // The first place, at `at` or later, at which b stands; the text's length where there is none.
-pub fn place_of(text: &[u8], at: usize, b: u8) -> usize
+fn place_of(text: &[u8], at: usize, b: u8) -> usize
     requires { ⌜ at ≤ length (now text) ⌝ }
     ensures placed { λ r. ⌜ r ≡ placeOf b (now (text .entry)) at ⌝ }
 {
@@ -95,7 +95,7 @@ fn is_counting(text: &[u8], a: usize, e: usize) -> bool
 }
 
 // A number of at most `most` digits.
-pub fn is_number(text: &[u8], a: usize, e: usize, most: usize) -> bool
+fn is_number(text: &[u8], a: usize, e: usize, most: usize) -> bool
     requires { ⌜ Part (now text) a e ⌝ }
     ensures number { λ r. ⌜ r ≡ isNumber most (now (text .entry)) a e ⌝ }
 {
@@ -109,7 +109,7 @@ pub fn is_number(text: &[u8], a: usize, e: usize, most: usize) -> bool
 }
 
 // The number that stands there.
-pub fn number(text: &[u8], a: usize, e: usize) -> u32
+fn number(text: &[u8], a: usize, e: usize) -> u32
     requires { ⌜ Part (now text) a e ⌝ }
     requires { ⌜ isNumber 9 (now text) a e ≡ true ⌝ }
     ensures valued { λ r. ⌜ r ≡ valueOf (now (text .entry)) a e ⌝ }
@@ -125,7 +125,7 @@ pub fn number(text: &[u8], a: usize, e: usize) -> u32
 }
 
 // A number of at most 7 digits, with "-" before it or not; but not "-0".
-pub fn is_coordinate(text: &[u8], a: usize, e: usize) -> bool
+fn is_coordinate(text: &[u8], a: usize, e: usize) -> bool
     requires { ⌜ Part (now text) a e ⌝ }
     ensures coordinate { λ r. ⌜ r ≡ isCoordinate (now (text .entry)) a e ⌝ }
 {
@@ -138,7 +138,7 @@ pub fn is_coordinate(text: &[u8], a: usize, e: usize) -> bool
     is_number(text, a, e, 7)
 }
 
-pub fn coordinate(text: &[u8], a: usize, e: usize) -> i32
+fn coordinate(text: &[u8], a: usize, e: usize) -> i32
     requires { ⌜ Part (now text) a e ⌝ }
     requires { ⌜ isCoordinate (now text) a e ≡ true ⌝ }
     ensures valued { λ r. ⌜ r ≡ coordinateOf (now (text .entry)) a e ⌝ }

@@ -14,9 +14,9 @@ use Rattle.plane.proofs.Laws.Tells.{Tells, tells-map, tells-not, tells-all, tel
 use Rattle.plane.proofs.Laws.Side.{L, leftOf-tells}
 use Rattle.plane.proofs.Laws.Edge.{emptyEdge-tells}
 use Rattle.plane.proofs.Laws.Hull.{OneSided, none-left, none-right, innerEdge-tells}
-use Rattle.masks.specs.Sets.{lacks, none}
+use Rattle.sets.specs.Sets.{lacks, none}
 use Rattle.masks.specs.Sides.{leftMark, leftSet}
-use Rattle.masks.proofs.Laws.Sets.{none-set}
+use Rattle.sets.proofs.Laws.Sets.{none-set}
 use Rattle.masks.proofs.Laws.Sides.{Left, left-tells}
 
 module _ (m : List ℤ) (few : count m ≤ 128) where

@@ -21,7 +21,6 @@ use certificates::certificate::first_certificate;
 use certificates::cross::is_crossed;
 use certificates::rows::fill_rows;
 use certificates::rows::part;
-use masks::sets::is_none;
 use masks::table::left_set;
 use masks::table::store_pair;
 use pairs::Pair;
@@ -32,6 +31,7 @@ use plane::marks::count;
 use refusals::Refusal;
 use refusals::Verdict;
 use refusals::check_list;
+use sets::is_none;
 
 pub enum Outcome {
     // Rows 1 to 5 and 8 of the table.

@@ -66,7 +66,7 @@ fn put_digits(out: &mut [u8], at: usize, n: u64) -> usize
 // ---- fields, each with the byte that ends it: a space, or a line feed for the last one
 
 // A word.
-pub fn put_word(out: &mut [u8], at: usize, word: &[u8], end: u8) -> usize
+fn put_word(out: &mut [u8], at: usize, word: &[u8], end: u8) -> usize
     requires { ⌜ Room (now out) at (now word ++ (end ∷ [])) ⌝ }
     ensures put { λ r. ⌜ Puts (now (out .entry)) at (now (word .entry) ++ (end ∷ [])) (now (out .exit)) r ⌝ }
 {
@@ -75,7 +75,7 @@ pub fn put_word(out: &mut [u8], at: usize, word: &[u8], end: u8) -> usize
 }
 
 // A number.
-pub fn put_number(out: &mut [u8], at: usize, n: u64, end: u8) -> usize
+fn put_number(out: &mut [u8], at: usize, n: u64, end: u8) -> usize
     requires { ⌜ Room (now out) at (digits n ++ (end ∷ [])) ⌝ }
     ensures put { λ r. ⌜ Puts (now (out .entry)) at (digits n ++ (end ∷ [])) (now (out .exit)) r ⌝ }
 {

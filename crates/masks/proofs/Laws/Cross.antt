@@ -11,11 +11,11 @@ use Rattle.plane.specs.Side.{area2, leftOf, rightOf, opposite}
 use Rattle.plane.specs.Cross.{crosses}
 use Rattle.plane.proofs.Laws.Tells.{tells-same, tells-yes, cond-yes}
 use Rattle.plane.proofs.Laws.Side.{weak, clash, rot, rot², leftOf-tells, rightOf-tells}
-use Rattle.masks.specs.declared.sets.Set.{Set}
-use Rattle.masks.specs.Sets.{setOf, has, both, either}
+use Rattle.sets.specs.declared.Set.{Set}
+use Rattle.sets.specs.Sets.{setOf, has, both, either}
 use Rattle.masks.specs.Sides.{isMark, leftMark, leftSet}
 use Rattle.masks.specs.Table.{splitMark}
-use Rattle.masks.proofs.Laws.Sets.{has-set, set-same, both-sets, either-sets}
+use Rattle.sets.proofs.Laws.Sets.{has-set, set-same, both-sets, either-sets}
 use Rattle.masks.proofs.Laws.Sides.{is-mark}
 
 -- ---- the side test with its points rotated

@@ -24,11 +24,11 @@ use Rattle.plane.proofs.Laws.Tells.{Tells, tells-map, tells-and, tells-same, co
 use Rattle.plane.proofs.Laws.Side.{leftOf-tells, rightOf-tells}
 use Rattle.masks.specs.declared.sides.Pass.{Pass}
 use Rattle.masks.specs.declared.sides.Sides.{Sides}
-use Rattle.masks.specs.Sets.{bit, word, setOf, has, lacks, none}
+use Rattle.sets.specs.Sets.{bit, word, setOf, has, lacks, none}
 use Rattle.masks.specs.Sides.{isMark, leftMark, leftSet, allIn, Passed, Found, kindBy}
-use Rattle.masks.proofs.Laws.Numbers.{split, and-true, and-no, all-same, all-short}
-use Rattle.masks.proofs.Laws.Words.{word-none, word-step, word-short, word-lt}
-use Rattle.masks.proofs.Laws.Sets.{set-words, has-set, none-set}
+use Rattle.sets.proofs.Laws.Numbers.{split, and-true, and-no, all-same, all-short}
+use Rattle.sets.proofs.Laws.Words.{word-none, word-step, word-short, word-lt}
+use Rattle.sets.proofs.Laws.Sets.{set-words, has-set, none-set}
 
 -- ---- left marks
 pub left-right : (p q k : Point) → leftOf q p k ≡ rightOf p q k

@@ -18,13 +18,13 @@ use Rattle.pairs.specs.Pairs.{pairCount, pairNumber, pairOf}
 use Rattle.plane.proofs.Laws.Tells.{tells-false, cond-yes, cond-no}
 use Rattle.plane.proofs.Laws.Side.{leftOf-tells, same}
 use Rattle.pairs.proofs.Laws.{pair-unique, pairOf-up, pairOf-down, pairOf-below}
-use Rattle.masks.specs.declared.sets.Set.{Set}
-use Rattle.masks.specs.Sets.{setOf}
+use Rattle.sets.specs.declared.Set.{Set}
+use Rattle.sets.specs.Sets.{setOf}
 use Rattle.masks.specs.Sides.{isMark, leftMark, leftSet}
 use Rattle.masks.specs.Table.{place, entry, Table, Filled, emptySet, putEntry}
-use Rattle.masks.proofs.Laws.Numbers.{split, and-no}
-use Rattle.masks.proofs.Laws.Words.{word-empty}
-use Rattle.masks.proofs.Laws.Sets.{set-words}
+use Rattle.sets.proofs.Laws.Numbers.{split, and-no}
+use Rattle.sets.proofs.Laws.Words.{word-empty}
+use Rattle.sets.proofs.Laws.Sets.{set-words}
 use Rattle.masks.proofs.Laws.Sides.{left-past-p, left-past-q}
 
 -- ---- where no mark is left

@@ -14,12 +14,12 @@ use Rattle.plane.proofs.Whole.Order.{add-pos, pos-eq}
 use Rattle.plane.proofs.Whole.Points.{D, _⊕_, geo}
 use Rattle.plane.proofs.Laws.Tells.{tells-yes}
 use Rattle.plane.proofs.Laws.Side.{L, weak, clash, leftOf-tells, rightOf-tells}
-use Rattle.masks.specs.declared.sets.Set.{Set}
-use Rattle.masks.specs.Sets.{setOf, has, lacks, none, both}
+use Rattle.sets.specs.declared.Set.{Set}
+use Rattle.sets.specs.Sets.{setOf, has, lacks, none, both}
 use Rattle.masks.specs.Sides.{leftMark, leftSet}
 use Rattle.masks.specs.Table.{inThree, noneLeft}
-use Rattle.masks.proofs.Laws.Numbers.{all-same, all-short}
-use Rattle.masks.proofs.Laws.Sets.{both-sets, none-set}
+use Rattle.sets.proofs.Laws.Numbers.{all-same, all-short}
+use Rattle.sets.proofs.Laws.Sets.{both-sets, none-set}
 use Rattle.masks.proofs.Laws.Sides.{left-right, left-mark, left-past}
 
 -- ---- the test on three left sets

@@ -7,7 +7,7 @@ use mathlib.Core.Bool.{true, false}
 use Prim.Native.Nat.{_-_}
 use native.Mathlib.Omega.{arith}
 use Rattle.plane.specs.Numbers.{firstTo}
-use Rattle.masks.specs.Sets.{has}
+use Rattle.sets.specs.Sets.{has}
 use Rattle.striking.specs.Status.{remaining}
 use Rattle.certificates.specs.Certificate.{firstCertificate, pickFitting, pickRight}
 use Rattle.certificates.specs.Plate.{edgesOf}

@@ -5,8 +5,8 @@ use mathlib.Core.Path.{_≡_, sym, _∙_}
 use Prim.Native.Nat.{_-_}
 use native.Mathlib.Omega.{arith}
 use Rattle.plane.specs.Numbers.{firstTo}
-use Rattle.masks.specs.Sets.{has}
-use Rattle.masks.proofs.Laws.Members.{first-member, next-later}
+use Rattle.sets.specs.Sets.{has}
+use Rattle.sets.proofs.Laws.Members.{first-member, next-later}
 use Rattle.striking.specs.Status.{remaining}
 use Rattle.certificates.specs.Plate.{edgesOf}
 use Rattle.certificates.proofs.Crossing.{Passed, pass-start, pass-next, pass-end, from-crosses, from-none}

@@ -6,7 +6,7 @@ use borrow.Author.Tests.{not-true, not-false}
 use Rattle.plane.specs.declared.hull.Kind.the-variants.{Blocked, Hull, Inner}
 use Rattle.plane.proofs.Laws.Tells.{cond-yes, cond-no}
 use Rattle.masks.specs.declared.sides.Sides.{Sides}
-use Rattle.masks.specs.Sets.{none}
+use Rattle.sets.specs.Sets.{none}
 use Rattle.masks.specs.Sides.{kindBy}
 use Rattle.masks.proofs.sides.kind_by.Statement.{statement}
 use Rattle.masks.proofs.sides.kind_by.Tie as tie

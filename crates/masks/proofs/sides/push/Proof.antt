@@ -1,7 +1,7 @@
 -- `sides::push` meets its contract. The digit is 1 exactly if x is true. Assumes nothing.
 use mathlib.Core.Path.{ap}
 use native.Mathlib.Omega.{arith}
-use Rattle.masks.specs.Sets.{bit}
+use Rattle.sets.specs.Sets.{bit}
 use borrow.Author.Needs.{needs}
 use Rattle.masks.proofs.sides.push.Statement.{statement}
 use Rattle.masks.proofs.sides.push.Tie as tie

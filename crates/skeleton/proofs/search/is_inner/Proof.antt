@@ -1,7 +1,7 @@
 -- `search::is_inner` meets its contract: an empty edge is inner exactly if it has a left set on either side. Assumes nothing.
 use mathlib.Core.Path.{sym, _∙_, ap}
 use mathlib.Core.Bool.{not}
-use Rattle.masks.specs.Sets.{none}
+use Rattle.sets.specs.Sets.{none}
 use Rattle.skeleton.proofs.Inner.{inner-no, inner-by}
 use borrow.Author.Needs.{needs}
 use Rattle.skeleton.proofs.search.is_inner.Statement.{statement}
