@@ -18,7 +18,7 @@ use Rattle.striking.proofs.Below.{length-list, list-at}
 use Rattle.striking.proofs.Remaining.{remaining-not, all-edges}
 use Rattle.certificates.specs.Plate.{pairsOf, edgesOf, plate}
 use Rattle.certificates.specs.Rows.{Rows, Clean}
-use Rattle.skeleton.specs.Run.{commonByte, common}
+use Rattle.skeleton.specs.Common.{commonByte, common}
 use Rattle.certificates.proofs.Near.{rows-same}
 use Rattle.certificates.proofs.Lawful.{lawful}
 use Rattle.certificates.proofs.Pairs.{edge-at}

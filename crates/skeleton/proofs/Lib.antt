@@ -6,9 +6,5 @@ pub mod Ended
 pub mod Crossed
 pub mod Statuses
 pub mod Theorems
-pub mod Filling
-pub mod Turns
-pub mod Readiness
-pub mod Inner
 pub mod Asked
 pub mod Common

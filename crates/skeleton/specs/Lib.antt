@@ -1,3 +1,3 @@
 pub mod Answers
 pub mod Table
-pub mod Run
+pub mod Common

@@ -9,10 +9,9 @@ ghost use Rattle.plane.specs.Edge.{emptyEdge};
 ghost use Rattle.striking.specs.Status.{remaining, allEdges};
 ghost use Rattle.certificates.specs.Certificate.{firstCertificate};
 ghost use Rattle.certificates.specs.Plate.{edgesOf, plate};
-ghost use Rattle.skeleton.specs.Run.{commonByte, common};
+ghost use Rattle.skeleton.specs.Common.{commonByte, common};
 ghost use Rattle.skeleton.specs.Answers.{firstAbove, byteRow, pairRow, requestRefusal, without, answerWith, answerIn, answerOf};
 use super::search::check_search;
-use super::search::mark_edges;
 use certificates::certificate::Certificate;
 use certificates::certificate::Pick;
 use certificates::certificate::certificate_of;
@@ -23,6 +22,7 @@ use plane::hull::kind_of;
 use plane::marks::count;
 use refusals::Refusal;
 use refusals::Verdict;
+use rounds::mark_edges;
 
 pub enum Reply {
     // Rows 1 to 7 of the table.

@@ -1,4 +1,4 @@
--- `check::check_list` meets its contract: it asks in the order of the table. Assumes nothing.
+-- `refusals::check_list` meets its contract: it asks in the order of the table. Assumes nothing.
 use mathlib.Core.Path.{sym, _∙_, ap, subst, subst₂}
 use Prim.Native.Nat.{ℕ, _≤_, _<_}
 use borrow.Author.Needs.{needs}

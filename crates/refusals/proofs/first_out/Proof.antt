@@ -1,4 +1,4 @@
--- `check::first_out` meets its contract. The invariant: the numbers passed are in range. Assumes nothing.
+-- `refusals::first_out` meets its contract. The invariant: the numbers passed are in range. Assumes nothing.
 use mathlib.Core.Path.{_≡_, sym, _∙_, ap}
 use mathlib.Core.Bool.{false, not}
 use Prim.Native.Nat.{ℕ, _-_, _≤_, _<_}

@@ -1,4 +1,4 @@
--- `check::first_twin` meets its contract. The invariant: the marks passed equal no earlier one. Assumes nothing.
+-- `refusals::first_twin` meets its contract. The invariant: the marks passed equal no earlier one. Assumes nothing.
 use mathlib.Core.Path.{_≡_, sym, _∙_}
 use mathlib.Core.Bool.{false}
 use Prim.Native.Nat.{ℕ, _-_, _≤_, _<_}

@@ -1,4 +1,4 @@
--- `check::has_twin` meets its contract. The invariant: the marks passed differ from mark j. Assumes nothing.
+-- `refusals::has_twin` meets its contract. The invariant: the marks passed differ from mark j. Assumes nothing.
 use mathlib.Core.Path.{_≡_, sym, _∙_, ap, ap₂}
 use mathlib.Core.Bool.{true, not}
 use Prim.Native.Nat.{_-_, _≤_}

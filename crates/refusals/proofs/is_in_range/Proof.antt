@@ -1,4 +1,4 @@
--- `check::is_in_range` meets its contract. Assumes nothing.
+-- `refusals::is_in_range` meets its contract. Assumes nothing.
 use mathlib.Core.Path.{_≡_, refl, sym, ap, _∙_, subst}
 use mathlib.Core.Bool.{true, false}
 use Prim.Native.Nat.{suc}

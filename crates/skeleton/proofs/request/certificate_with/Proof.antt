@@ -5,7 +5,7 @@ use mathlib.Core.List.{List}
 use Prim.Native.Nat.{ℕ}
 use lib.ListN.{length}
 use Rattle.masks.proofs.Laws.Table.{fill-start}
-use Rattle.skeleton.specs.Run.{common}
+use Rattle.skeleton.specs.Common.{common}
 use Rattle.skeleton.proofs.Common.{edges-long, common-long, common-clean, common-rows}
 use Rattle.skeleton.proofs.request.certificate_with.Statement.{statement}
 use Rattle.skeleton.proofs.request.certificate_with.Tie as tie

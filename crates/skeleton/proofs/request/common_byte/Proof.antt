@@ -1,7 +1,7 @@
 -- `request::common_byte` meets its contract. Assumes nothing.
 use mathlib.Core.Path.{sym}
 use borrow.Author.Tests.{eq-eqb, ne-eqb}
-use Rattle.skeleton.specs.Run.{commonByte}
+use Rattle.skeleton.specs.Common.{commonByte}
 use Rattle.plane.proofs.Laws.Tells.{cond-yes, cond-no}
 use Rattle.skeleton.proofs.request.common_byte.Statement.{statement}
 use Rattle.skeleton.proofs.request.common_byte.Tie as tie

@@ -4,8 +4,8 @@ use Prim.Native.Nat.{ℕ, _-_, _≤_}
 use native.Mathlib.Omega.{arith}
 use borrow.Author.Needs.{needs}
 use lib.ListN.{length, getD}
-use Rattle.skeleton.specs.Run.{commonByte, common}
-use Rattle.skeleton.proofs.Filling.{Filling, filling-none, filling-next, filling-end}
+use Rattle.skeleton.specs.Common.{commonByte, common}
+use Rattle.rounds.proofs.Filling.{Filling, filling-none, filling-next, filling-end}
 use Rattle.skeleton.proofs.request.keep_common.Statement.{statement}
 use Rattle.skeleton.proofs.request.keep_common.Tie as tie
 

@@ -4,11 +4,11 @@ use Prim.Native.Nat.{ℕ}
 use borrow.Author.Needs.{needs}
 use lib.ListN.{replicate}
 use Rattle.striking.specs.Search.{Outcome, bytesAt}
-use Rattle.skeleton.specs.declared.search.Halt.{Halt}
+use Rattle.rounds.specs.declared.Halt.{Halt}
 use Rattle.certificates.specs.Plate.{plate}
 use Rattle.skeleton.specs.Answers.{told}
-use Rattle.skeleton.specs.Run.{outcomeBy}
-use Rattle.skeleton.proofs.Turns.{paused-by}
+use Rattle.rounds.specs.Run.{outcomeBy}
+use Rattle.rounds.proofs.Turns.{paused-by}
 use Rattle.skeleton.proofs.search.finish.Statement.{statement}
 use Rattle.skeleton.proofs.search.finish.Tie as tie
 

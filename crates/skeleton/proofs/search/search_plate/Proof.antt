@@ -8,8 +8,8 @@ use Rattle.striking.specs.Search as striking
 use Rattle.certificates.specs.Plate.{plate}
 use Rattle.certificates.specs.Rows.{Clean}
 use Rattle.skeleton.specs.Answers.{told}
-use Rattle.skeleton.specs.Run.{asFinal}
-use Rattle.skeleton.proofs.Readiness.{clean-start}
+use Rattle.rounds.specs.Run.{asFinal}
+use Rattle.rounds.proofs.Readiness.{clean-start}
 use Rattle.skeleton.proofs.Common.{edges-long}
 use Rattle.striking.specs.Search as striking
 use Rattle.skeleton.proofs.search.search_plate.Statement.{statement}
