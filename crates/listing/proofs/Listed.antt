@@ -26,7 +26,7 @@ use Rattle.reading.specs.declared.read.Reading.the-variants as reading
 use Rattle.reading.specs.Read.{numbersOf, readingOf, numbersAfter}
 use Rattle.writing.specs.Listing.{refusedText, listingText}
 use Rattle.reading.proofs.Answer.{numbers-first}
-use Rattle.listing.specs.Program.{statusRoom, textBy, marksText, listText, textFor, answerText}
+use Rattle.listing.specs.Program.{statusRoom, textBy, marksText, listText, listStatus, textFor, answerText, statusFor, answerStatus}
 
 module _ (m : List ℤ) (st : List ℕ) (budget : ℕ) where
   pub record Listable : Type 0 where
@@ -97,6 +97,13 @@ pub listed-cleared : (m : List ℤ) (budget : ℕ) {st : List ℕ} → st ≡ re
 unfolding listText
 listed-cleared m budget e = ap (λ (s : List ℕ). marksText m s budget) e
 
+pub listed-status :
+    (m : List ℤ) (budget : ℕ) {k : ℕ} {st : List ℕ} → k ≡ statusRoom m → st ≡ replicate 8128 0 →
+    statusAfter m (take k st) budget ++ drop k st ≡ listStatus m budget
+unfolding listStatus
+listed-status m budget e s =
+    ap₂ _++_ (ap (λ (x : List ℕ). statusAfter m x budget) (part-cleared m e s)) (ap₂ drop e s)
+
 -- ---- the whole answer
 module _ (t : List ℕ) where
   pub answered-refused : {d : ℕ} → readingOf t ≡ reading.Refused d → refusedText 9 d ≡ answerText t
@@ -106,6 +113,14 @@ module _ (t : List ℕ) where
   pub answered-read : {budget n : ℕ} {m : List ℤ} → readingOf t ≡ reading.Read budget n → m ≡ numbersOf t → listText m budget ≡ answerText t
   unfolding answerText textFor
   answered-read {budget} e q = ap (λ (m : List ℤ). listText m budget) q ∙ sym (ap (λ (r : Reading). textFor r (numbersOf t)) e)
+
+  pub status-refused : {d : ℕ} → readingOf t ≡ reading.Refused d → replicate 8128 0 ≡ answerStatus t
+  unfolding answerStatus statusFor
+  status-refused e = sym (ap (λ (r : Reading). statusFor r (numbersOf t)) e)
+
+  pub status-read : {budget n : ℕ} {m : List ℤ} → readingOf t ≡ reading.Read budget n → m ≡ numbersOf t → listStatus m budget ≡ answerStatus t
+  unfolding answerStatus statusFor
+  status-read {budget} e q = ap (λ (m : List ℤ). listStatus m budget) q ∙ sym (ap (λ (r : Reading). statusFor r (numbersOf t)) e)
 
   -- the numbers that were read stand at the start of the list
   pub read-part : (b n : ℕ) (old : List ℤ) {m : List ℤ} → readingOf t ≡ reading.Read b n → m ≡ numbersAfter t old → take n m ≡ numbersOf t

@@ -2,13 +2,15 @@
 --   statusRoom m             how many of the status bytes a list is lent
 --   marksText m st budget    the text for the list m, where the status bytes st are lent
 --   listText m budget        the same, of bytes that are "all cleared before a run"
+--   listStatus m budget      the status bytes then, all 8,128
 --   answerText t             the text that answers the text t
+--   answerStatus t           the status bytes when the text t is answered
 use mathlib.Core.Bool.{true, false, cond}
-use mathlib.Core.List.{List}
+use mathlib.Core.List.{List, _++_}
 use Prim.Native.Nat.{ℕ}
 use lib.Dec.{ltb}
 use lib.IntN.{ℤ}
-use lib.ListN.{replicate}
+use lib.ListN.{drop, replicate}
 use Rattle.plane.specs.Marks.{count}
 use Rattle.pairs.specs.Pairs.{pairCount}
 use Rattle.skeleton.specs.declared.search.Outcome.{Outcome}
@@ -35,6 +37,10 @@ marksText m st budget = textBy (outcomeOf m st budget) (statusAfter m st budget)
 unfoldable pub listText : List ℤ → ℕ → List ℕ
 listText m budget = marksText m (replicate (statusRoom m) 0) budget
 
+-- the bytes that were lent have the statuses, the others stay cleared
+unfoldable pub listStatus : List ℤ → ℕ → List ℕ
+listStatus m budget = statusAfter m (replicate (statusRoom m) 0) budget ++ drop (statusRoom m) (replicate 8128 0)
+
 -- "the program tests 9 before all others"
 unfoldable pub textFor : Reading → List ℤ → List ℕ
 textFor (reading.Refused d) m = refusedText 9 d
@@ -42,3 +48,10 @@ textFor (reading.Read budget n) m = listText m budget
 
 unfoldable pub answerText : List ℕ → List ℕ
 answerText t = textFor (readingOf t) (numbersOf t)
+
+unfoldable pub statusFor : Reading → List ℤ → List ℕ
+statusFor (reading.Refused d) m = replicate 8128 0
+statusFor (reading.Read budget n) m = listStatus m budget
+
+unfoldable pub answerStatus : List ℕ → List ℕ
+answerStatus t = statusFor (readingOf t) (numbersOf t)

@@ -4,7 +4,7 @@ ghost use mathlib.Core.List.{_++_};
 ghost use Prim.Native.Nat.{_≤_};
 ghost use lib.ListN.{length, drop, replicate};
 ghost use Rattle.skeleton.specs.Answers.{statusAfter};
-ghost use Rattle.listing.specs.Program.{statusRoom, marksText, listText, answerText};
+ghost use Rattle.listing.specs.Program.{statusRoom, marksText, listText, listStatus, answerText, answerStatus};
 use pairs::pair_count;
 use plane::marks::count;
 use reading::read::Reading;
@@ -50,6 +50,7 @@ fn list_cleared(m: &[i32], st: &mut [u8], budget: u32, out: &mut [u8]) -> usize
     requires { ⌜ 138240 ≤ length (now out) ⌝ }
     ensures counted { λ r. ⌜ r ≡ length (listText (now (m .entry)) budget) ⌝ }
     ensures written { λ r. ⌜ now (out .exit) ≡ listText (now (m .entry)) budget ++ drop (length (listText (now (m .entry)) budget)) (now (out .entry)) ⌝ }
+    ensures status { λ r. ⌜ now (st .exit) ≡ listStatus (now (m .entry)) budget ⌝ }
 {
     let k = status_room(m);
     list(m, &mut st[..k], budget, out)
@@ -62,6 +63,7 @@ pub fn answer(text: &[u8], st: &mut [u8], out: &mut [u8]) -> usize
     ensures counted { λ r. ⌜ r ≡ length (answerText (now (text .entry))) ⌝ }
     ensures written { λ r. ⌜ now (out .exit) ≡ answerText (now (text .entry)) ++ drop (length (answerText (now (text .entry)))) (now (out .entry)) ⌝ }
     ensures fits { λ r. ⌜ r ≤ length (now (out .exit)) ⌝ }
+    ensures status { λ r. ⌜ now (st .exit) ≡ answerStatus (now (text .entry)) ⌝ }
 {
     let mut numbers = [0i32; 2048];
     let x = read(text, &mut numbers);

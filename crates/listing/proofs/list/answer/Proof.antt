@@ -4,7 +4,7 @@ use native.Mathlib.Omega.{arith}
 use borrow.Author.Needs.{needs}
 use lib.Seq.{length-take-le}
 use Rattle.reading.proofs.Answer.{count-small}
-use Rattle.listing.proofs.Listed.{answered-refused, answered-read, read-part, stands-as, stands-room}
+use Rattle.listing.proofs.Listed.{answered-refused, answered-read, status-refused, status-read, read-part, stands-as, stands-room}
 use Rattle.listing.specs.Program.{answerText}
 use Rattle.listing.proofs.list.answer.Statement.{statement}
 use Rattle.listing.proofs.list.answer.Tie as tie
@@ -37,7 +37,21 @@ same-length : tie.Need-same-length
 same-length c = search needs
 
 returns : tie.Need-returns
-returns c = let s = c .before .before .before .before .before .before .before .before .before .before .before .before .before in let h = stands-as (s .args .out .now) (answered-refused (s .args .text .now) (sym (c .before .before .before .before .before .before .before .before .read .ensures .0) ∙ c .before .before .before .before .before .x .given .1)) (c .before .before .write-refusal .ensures) in (h .0, (h .1, stands-room (s .args .out .now) (answerText (s .args .text .now)) h refl))
+returns c =
+    let s = c .before .before .before .before .before .before .before .before .before .before .before .before .before in
+    let e =
+    sym (c .before .before .before .before .before .before .before .before .read .ensures .0) ∙
+    c .before .before .before .before .before .x .given .1 in
+    let h = stands-as (s .args .out .now) (answered-refused (s .args .text .now) e) (c .before .before .write-refusal .ensures) in (
+      h .0,
+      (
+        h .1,
+        (
+          stands-room (s .args .out .now) (answerText (s .args .text .now)) h refl,
+          s .pre .0 ∙ status-refused (s .args .text .now) e,
+        ),
+      ),
+    )
 
 same-length-2 : tie.Need-same-length-2
 same-length-2 c = search needs
@@ -46,7 +60,25 @@ same-length-3 : tie.Need-same-length-3
 same-length-3 c = search needs
 
 returns-2 : tie.Need-returns-2
-returns-2 c = let s = c .before .before .before .before .before .before .before .before .before .before .before .before .before .before .before .before .before in let e = sym (c .before .before .before .before .before .before .before .before .before .before .before .before .read .ensures .0) ∙ c .before .before .before .before .before .before .before .before .before .x2 .given .1 in let h = stands-as (s .args .out .now) (answered-read (s .args .text .now) e (read-part (s .args .text .now) _ (c .before .before .before .before .before .before .before .before .before .x2 .given .0 .1 .0) _ e (c .before .before .before .before .before .before .before .before .before .before .before .before .read .ensures .1))) (c .before .before .before .before .list-cleared .ensures) in (h .0, (h .1, stands-room (s .args .out .now) (answerText (s .args .text .now)) h refl))
+returns-2 c =
+    let s =
+    c .before .before .before .before .before .before .before .before .before .before .before .before .before .before .before .before
+    .before in
+    let r = c .before .before .before .before .before .before .before .before .before .before .before .before .read .ensures in
+    let x = c .before .before .before .before .before .before .before .before .before .x2 .given in
+    let l = c .before .before .before .before .list-cleared .ensures in
+    let e = sym (r .0) ∙ x .1 in
+    let numbers = read-part (s .args .text .now) _ (x .0 .1 .0) _ e (r .1) in
+    let h = stands-as (s .args .out .now) (answered-read (s .args .text .now) e numbers) (l .0, l .1 .0) in (
+      h .0,
+      (
+        h .1,
+        (
+          stands-room (s .args .out .now) (answerText (s .args .text .now)) h refl,
+          l .1 .1 ∙ status-read (s .args .text .now) e numbers,
+        ),
+      ),
+    )
 
 pub answer-spec : {M : Type 1} → statement M
 answer-spec =
