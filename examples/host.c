@@ -4,7 +4,7 @@
  *     host PLATE [A B]
  *
  * It reads a plate, searches it under a growing budget, as a controller does that stops early and goes on, and prints what each
- * search found. Then it asks what vouches for the pair (A, B); if none is given, for the first inner edge that is not impossible.
+ * search found. Then it asks for a certificate of the pair (A, B); if no pair is given, of the first inner edge that is not impossible.
  *
  * A plate is a text as the listing program reads it. Its first line, the budget, is skipped; each further line is a mark, `x y`.
  *
@@ -17,10 +17,10 @@
 #include <string.h>
 #include "skeleton.h"
 
-/* The most marks that are read. They are more than the library takes, whose refusal is then shown. */
+/* The most marks that are read: more than the library takes, so that its refusal is seen. */
 #define MOST_READ 1000
 
-/* Of plates up to so many marks the certain edges are named. */
+/* On plates of at most so many marks the certain edges are named; on larger ones they are counted. */
 #define SMALL 8
 
 struct plate {
@@ -97,10 +97,10 @@ static int read_plate(const char *path, struct plate *plate)
     return is_read;
 }
 
-/* Lends a status byte for each pair. Too many marks are refused before their status buffer is looked at. */
+/* Makes a status byte for each pair; none for too many marks, which are refused before any search. */
 static int make_status(struct plate *plate)
 {
-    plate->pairs = plate->n < 2 || plate->n > SKELETON_MARKS ? 0 : plate->n * (plate->n - 1) / 2;
+    plate->pairs = plate->n < 2 || plate->n > SKELETON_MOST_MARKS ? 0 : plate->n * (plate->n - 1) / 2;
     plate->status = (uint8_t *)malloc(plate->pairs);
     return plate->status != NULL || plate->pairs == 0 ? 1 : failed("no memory for", "the status bytes");
 }

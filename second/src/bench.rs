@@ -1,4 +1,4 @@
-//! Times of a search by the library and by the own plain search, and the stack
+//! Times of a search by the library and by this program's plain search, and the stack
 //! that each call of the library takes.
 
 use std::fs;

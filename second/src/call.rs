@@ -44,7 +44,7 @@ impl Call {
         Answer { number, left: black_box(left) }
     }
 
-    /// Compares a side with the own one, and gives the number that both
+    /// Compares a side with this program's, and gives the number that both
     /// return; a difference is made small first.
     pub fn compare(&self, other: &dyn Calls) -> Result<u32, Box<Difference>> {
         let own = self.answer(&Own);

@@ -1,4 +1,4 @@
-//! The calls of include/skeleton.h, and the own answers to them.
+//! The calls of include/skeleton.h, and this program's own answers to them.
 
 use crate::driver::{request_certificate, search_list, Answer};
 use crate::plane::{pair_count, pair_number};

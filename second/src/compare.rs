@@ -1,4 +1,4 @@
-//! Compares the own lister with another side, byte by byte.
+//! Compares this program's lister with another side, byte by byte.
 
 use std::fmt::{Display, Formatter, Result as Written};
 

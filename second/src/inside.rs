@@ -1,4 +1,4 @@
-//! Compares another side's answers to the calls with the own ones, in process:
+//! Compares another side's answers to the calls with this program's, in process:
 //! on random plates, with buffers of any length, and on damaged calls.
 
 use std::collections::BTreeMap;

@@ -20,7 +20,7 @@ usage:
   second list
       reads a plate from standard input and writes its listing
   second compare --lister PATH [--seed S] [--plates N] [--texts N]
-      compares PATH with the own lister on random plates and damaged texts
+      compares PATH with this program's lister on random plates and damaged texts
   second small --lister PATH
       compares on every set of up to 5 marks on a grid of 3 by 3
   second demands [--lister PATH] [--seed S] [--plates N]
@@ -32,11 +32,11 @@ usage:
       cluster, tiny, extreme, parabola
 built with the feature `driver`, which links the library:
   second inside [--seed S] [--plates N]
-      compares the library's calls with the own ones, in process
+      compares the library's answers with this program's, in process
   second bench [FOLDER]
       times of a search of each plate, and the stack that each call takes
   second once PLATE driver|plain
-      searches a plate once, by the library or by the own search
+      searches a plate once, by the library or by this program's plain search
 ";
 
 /// A command that was not understood.

@@ -1,5 +1,5 @@
--- The words that the search works on, for the contracts of its inner functions. No public promise mentions them. A set of edges K is a test
--- of two marks, the smaller number first.
+-- The words that the search works on, for the contracts of this crate and of crate rounds. No contract of an entry point mentions them. A set
+-- of edges K is a test of two marks, the smaller number first.
 --   nearMark m K p i          p and i are marks, and their edge belongs to K
 --   nearSet m K p             the marks that p has an edge of K to
 --   rowAt d p, putRow d p s   the row of p in the words d; the words with s for that row

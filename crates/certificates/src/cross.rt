@@ -1,4 +1,4 @@
-// What of the set crosses an edge.
+// Whether some edge of the set crosses an edge.
 ghost use mathlib.Core.Path.{_≡_};
 ghost use Prim.Native.Nat.{_<_};
 ghost use Rattle.plane.specs.Marks.{Plate, IsMark};

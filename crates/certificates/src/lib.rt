@@ -1,4 +1,4 @@
-// Rules 7 to 9: which certificate an edge has in a set of edges, which edges of the set cross it, and what the demands say of such sets.
+// Rules 7 to 9: which certificate an edge has in a set of edges, whether an edge of the set crosses it, and the sets of which the demands speak.
 //
 // A set of edges stands in the code as status bytes and, beside them, as rows of neighbours: `rows` fills and parts these, and over them and
 // the table of crate masks `certificate::first_certificate` and `cross::is_crossed` are quick. specs/Certificate.antt has rules 7 and 8,

@@ -54,8 +54,8 @@ searchReply m st budget = outcomeReply (outcomeOf m st budget)
 unfoldable pub searchStatus : List ℕ → List ℤ → List ℕ → ℕ → List ℕ
 searchStatus result m st budget = cond (ltb (length result) 2) st (statusAfter m st budget)
 
--- ---- the certificate request: 0 hull, 1 not empty, 2 certified, 3 none, then the certificate's apexes r and s and the numbers of its
--- sides pr, qr, ps, qs, which are all 0 unless it is 2; of a refusal its detail, and six times 0
+-- ---- the certificate request: first 0 hull, 1 not empty, 2 certified or 3 none, and of a refusal its detail; then the certificate's apexes
+-- r and s and the numbers of its sides pr, qr, ps, qs. These six are 0 unless the pair is certified (`without` of skeleton's Answers.antt)
 unfoldable pub certificateNumbers : ℕ → Certificate → List ℕ
 certificateNumbers first c = first ∷ c .r ∷ c .s ∷ c .sides
 

@@ -1,8 +1,8 @@
 // The C interface: what include/skeleton.h declares, over `skeleton`.
 //
-// Each function answers with a status number: 0, or the number of a refusal. What else it has to tell it writes at the start of a lent
-// result buffer; what stands behind stays. A result buffer that is too short is refused first of all, with a number of its own, and then
-// nothing is written anywhere. specs/Driver.antt says every number.
+// Each function but `skeleton_version` answers with a status number: 0, or the number of a refusal. What else it has to tell it writes at the
+// start of a lent result buffer; what stands behind stays. A result buffer that is too short is refused with a number of its own, whatever else
+// is wrong, and then nothing is written anywhere. specs/Driver.antt says every number.
 ghost use mathlib.Core.Path.{_≡_};
 ghost use mathlib.Core.List.{_++_};
 ghost use Prim.Native.Nat.{_≤_};
@@ -157,7 +157,7 @@ fn tell_answer(result: &mut [u64], reply: Reply, c: Certificate) -> u32
     }
 }
 
-// What vouches for the pair (a, b), in the set of the edges whose status is not 0.
+// The certificate request for the pair (a, b), in the set of the empty edges whose byte is not 0.
 #[no_mangle]
 pub extern "C" fn skeleton_certificate(
     marks: &[i32],
@@ -216,7 +216,7 @@ pub extern "C" fn skeleton_longest_budget(n: usize, result: &mut [u64]) -> u32
     tell(result, 0, &numbers)
 }
 
-// The version of the interface.
+// The version of the interface that skeleton.h declares.
 #[no_mangle]
 pub extern "C" fn skeleton_version() -> u32
     ensures version { λ r. ⌜ r ≡ version ⌝ }

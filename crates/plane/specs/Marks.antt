@@ -4,7 +4,7 @@
 --   mark m i       the point of mark i; (0, 0) past the end
 --   IsMark m i     i is the number of a mark
 --   everyMark m f  f holds of every mark
---   Plate m        m is a list as the paper has it; what every rule may take for granted
+--   Plate m        m is a list as 01 has it; what every rule may take for granted
 use mathlib.Core.Path.{_≡_}
 use mathlib.Core.Bool.{Bool, false, cond}
 use mathlib.Core.List.{List}

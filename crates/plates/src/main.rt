@@ -1,4 +1,4 @@
-// The worked plates of document 01 that are proved: one table, and a program that runs the search over it.
+// The worked plates of 01 that are proved: one table, and a program that runs the search over it.
 ghost use mathlib.Core.Path.{_≡_};
 ghost use Prim.Native.Nat.{_<_, _≤_};
 ghost use lib.ListN.{length, getD};

@@ -1,13 +1,13 @@
 -- The listing program's text. "Line 1 is the budget, "-" or up to 9 digits; "-" stands for 1,000. Each further line is one mark: x, one
 -- space, y. Every line ends in a line feed, the last one too. [..] Line numbers start at 1. Input that is empty is 9 with line 1; more
--- than 4,096 bytes is 9 with detail 0; else the first bad line counts." Lines are counted from 0 here: line n is the paper's n + 1.
+-- than 4,096 bytes is 9 with detail 0; else the first bad line counts." Lines are counted from 0 here: line n is 01's n + 1.
 --   lineStart t n, lineEnd t n  where line n starts, and its line feed; the text's length where there is none
 --   isThere t n                 the text has a line n
 --   isBudget t a e              the part is "-" or a number of at most 9 digits; budgetOf t a e is the budget that it stands for
 --   isMark t a e                the part is a coordinate, one space, a coordinate
 --   isGood t n                  line n ends in a line feed and is a budget, for n = 0, or a mark
 --   firstBad t                  the first line that is there and not good; the text's length where there is none
---   Readable t                  t is a text as the paper has it
+--   Readable t                  t is a text as 01 has it
 --   markCount t                 how many marks it has: its lines without the first
 --   numbersOf t                 the marks' numbers, x0, y0, x1, y1, and so on
 --   readingOf t                 what reading t answers: the detail of refusal 9, or the budget and how many numbers there are

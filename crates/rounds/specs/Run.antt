@@ -1,4 +1,4 @@
--- How the code's state stands for the search's, for the contracts of its inner functions. No public promise mentions it.
+-- How the code's state stands for the search's, for the contracts of this crate. No contract of an entry point mentions it.
 --   edgeByte k         the byte with which a pair of kind k starts
 --   asState run st     the round under way
 --   asFinal run st     the search that is over

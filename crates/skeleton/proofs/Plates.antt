@@ -42,7 +42,7 @@ replyNumbers NotEmpty = 11 ∷ []
 replyNumbers Certified = 12 ∷ []
 replyNumbers Uncertified = 13 ∷ []
 
--- ---- the plates of the scope paper
+-- ---- the plates of 01
 abbrev three : List ℤ
 three = pos 0 ∷ pos 0 ∷ pos 1 ∷ pos 0 ∷ pos 2 ∷ pos 0 ∷ []
 

@@ -1,7 +1,7 @@
 -- The demands on the skeleton, of every list m, every status buffer st and every budget, in the words of specs/. Each proof cites
 -- the file that has the reason.
 --
--- What shuts out the four empty programs of the scope paper:
+-- What shuts out the four empty programs of 01:
 --   one that refuses always              `refused-exactly`, `unrefused-exactly`, `answer-exactly`
 --   one that calls every edge possible   `done-largest`, `certain-exactly`
 --   one that writes no status            the same, since they speak of the buffer's bytes when the search returns

@@ -198,7 +198,7 @@ fn certify(m: &[i32], st: &[u8], a: usize, b: usize) -> Answer
     }
 }
 
-// What vouches for the pair (a, b). Answers every list, buffer and pair, and writes nothing.
+// The certificate request for the pair (a, b). Answers every list, buffer and pair, and writes nothing.
 pub fn request(m: &[i32], st: &[u8], a: usize, b: usize) -> Answer
     ensures answered { λ r. ⌜ r ≡ answerOf (now (m .entry)) (now (st .entry)) a b ⌝ }
 {

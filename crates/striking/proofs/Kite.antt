@@ -1,4 +1,4 @@
--- The kite of the scope paper as a system, its edges written out by hand: the definitions compute its plates. Of its inner
+-- The kite of 01 as a system, its edges written out by hand: the definitions compute its plates. Of its inner
 -- edges 1 and 4, which cross, only 4 can have a certificate, whose sides are the four hull edges. Where not even 4 has one, the
 -- search strikes 1 and ends with answer 8 at 4. Assumes nothing.
 use mathlib.Core.Path.{_≡_, refl}
@@ -28,7 +28,7 @@ kiteWith v =
       vouched = v;
     }
 
--- the paper's kite
+-- 01's kite
 abbrev kite : System
 kite = kiteWith (λ S i. cond (eqb i 4) (hullEdges S) false)
 

@@ -204,12 +204,12 @@ module _ (p q : ℕ) (t t′ : List ℕ) (e : entry t p q ≡ entry t′ p q) wh
   unfolding entry
   high-of = ap (λ (s : Set). s .high) e
 
-pub table-unique : {m : List ℤ} {t t′ : List ℕ} → Table m t → Table m t′ → t ≡ t′
-table-unique {m} {t} {t′} f g = ext-getD 0 t t′ (f .size ∙ sym (g .size)) (λ i h. at i (omega (arith, f .size)))
+-- a table is its entries
+entries-unique :
+    (t t′ : List ℕ) → length t ≡ 32768 → length t′ ≡ 32768 →
+    ((p q : ℕ) → p < 128 → q < 128 → entry t p q ≡ entry t′ p q) → t ≡ t′
+entries-unique t t′ f g pair = ext-getD 0 t t′ (f ∙ sym g) (λ i h. at i (omega (arith, f)))
   where
-    pair : (p q : ℕ) → p < 128 → q < 128 → entry t p q ≡ entry t′ p q
-    pair p q hp hq = f .each p q hp hq ∙ sym (g .each p q hp hq)
-
     at : (i : ℕ) → i < 32768 → getD t i 0 ≡ getD t′ i 0
     at i h = ⊎-elim (λ l. even (omega arith)) (λ l. odd (omega arith)) (split (i % 2) 0)
       where
@@ -220,3 +220,11 @@ table-unique {m} {t} {t′} f g = ext-getD 0 t t′ (f .size ∙ sym (g .size)) 
         odd : i % 2 ≡ 1 → getD t i 0 ≡ getD t′ i 0
         odd z = let e : place (i / 256) (i % 256 / 2) + 1 ≡ i = omega arith in
             subst (λ (k : ℕ). getD t k 0 ≡ getD t′ k 0) e (high-of (i / 256) (i % 256 / 2) t t′ (pair (i / 256) (i % 256 / 2) (omega arith) (omega arith)))
+
+pub table-unique : {m : List ℤ} {t t′ : List ℕ} → Table m t → Table m t′ → t ≡ t′
+table-unique {m} {t} {t′} f g =
+    entries-unique t t′ (f .size) (g .size) (λ p q hp hq. f .each p q hp hq ∙ sym (g .each p q hp hq))
+
+pub filled-unique : {m : List ℤ} {t t′ : List ℕ} {i : ℕ} → Filled m t i → Filled m t′ i → t ≡ t′
+filled-unique {m} {t} {t′} f g =
+    entries-unique t t′ (f .size) (g .size) (λ p q hp hq. f .each p q hp hq ∙ sym (g .each p q hp hq))
