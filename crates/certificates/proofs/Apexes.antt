@@ -23,7 +23,7 @@ use Rattle.sets.specs.declared.Set.{Set}
 use Rattle.sets.specs.Sets.{setOf, has}
 use Rattle.masks.specs.Table.{noneLeft, splitMark}
 use Rattle.sets.proofs.Laws.Sets.{has-set}
-use Rattle.masks.proofs.Laws.Sides.{left-right}
+use Rattle.sides.proofs.Laws.{left-right}
 use Rattle.masks.proofs.Laws.Triangle.{hollow-left, hollow-right}
 use Rattle.masks.proofs.Laws.Cross.{split-crosses}
 use Rattle.striking.proofs.Tests as tests

@@ -12,11 +12,11 @@ use Rattle.plane.specs.Side.{leftOf}
 use Rattle.plane.proofs.Laws.Tells.{cond-yes, cond-no}
 use Rattle.sets.specs.declared.Set.{Set}
 use Rattle.sets.specs.Sets.{setOf, has, both}
-use Rattle.masks.specs.Sides.{isMark, leftMark, leftSet}
+use Rattle.sides.specs.Sides.{isMark, leftMark, leftSet}
 use Rattle.masks.specs.Table.{noneLeft, emptySet}
 use Rattle.sets.proofs.Laws.Words.{word-empty}
 use Rattle.sets.proofs.Laws.Sets.{set-words, set-same, both-sets}
-use Rattle.masks.proofs.Laws.Sides.{is-mark, left-mark}
+use Rattle.sides.proofs.Laws.{is-mark, left-mark}
 use Rattle.striking.proofs.Tests as tests
 use Rattle.striking.proofs.Tests.{not-both, first-of, second-of}
 use Rattle.certificates.specs.Certificate.{joined}

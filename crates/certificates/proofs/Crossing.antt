@@ -22,12 +22,12 @@ use Rattle.pairs.proofs.Laws.{pairAt-numbered, pairAt-below}
 use Rattle.plane.proofs.Laws.Cross.{crosses-ends, crosses-tells}
 use Rattle.sets.specs.declared.Set.{Set}
 use Rattle.sets.specs.Sets.{setOf, has, lacks, none, both, without}
-use Rattle.masks.specs.Sides.{leftMark, leftSet}
+use Rattle.sides.specs.Sides.{leftMark, leftSet}
 use Rattle.masks.specs.Table.{splitMark}
 use Rattle.sets.proofs.Laws.Sets.{both-sets, none-set}
 use Rattle.sets.proofs.Laws.Members.{first-before, has-rest}
 use Rattle.sets.proofs.Laws.Words.{without-at, without-off}
-use Rattle.masks.proofs.Laws.Sides.{Left, left-right, left-mark, left-tells, has-left}
+use Rattle.sides.proofs.Laws.{Left, left-right, left-mark, left-tells, has-left}
 use Rattle.masks.proofs.Laws.Cross.{split-crosses}
 use Rattle.striking.specs.System.{crossed}
 use Rattle.striking.proofs.Tests.{not-both, is-false, first-of, second-of}

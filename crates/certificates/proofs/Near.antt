@@ -19,11 +19,11 @@ use Rattle.plane.proofs.Laws.Tells.{cond-yes, cond-no}
 use Rattle.pairs.proofs.Laws.{pair-unique}
 use Rattle.sets.specs.declared.Set.{Set}
 use Rattle.sets.specs.Sets.{setOf, has, including, without}
-use Rattle.masks.specs.Sides.{isMark}
+use Rattle.sides.specs.Sides.{isMark}
 use Rattle.sets.proofs.Laws.Numbers.{split}
 use Rattle.sets.proofs.Laws.Words.{word-empty, without-at, without-off}
 use Rattle.sets.proofs.Laws.Sets.{set-words, has-set, set-same, including-at, including-off}
-use Rattle.masks.proofs.Laws.Sides.{is-mark}
+use Rattle.sides.proofs.Laws.{is-mark}
 use Rattle.striking.specs.Status.{remaining}
 use Rattle.striking.proofs.Tests.{not-both, both, second-of}
 use Rattle.striking.proofs.Remaining.{remaining-not, remaining-yes, struck-gone, others-stay}

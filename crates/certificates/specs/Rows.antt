@@ -27,7 +27,7 @@ use Rattle.plane.specs.Weight.{weight}
 use Rattle.plane.specs.Edge.{emptyEdge}
 use Rattle.sets.specs.declared.Set.{Set}
 use Rattle.sets.specs.Sets.{setOf, lacks, both}
-use Rattle.masks.specs.Sides.{isMark, leftMark}
+use Rattle.sides.specs.Sides.{isMark, leftMark}
 use Rattle.masks.specs.Table.{noneLeft, splitMark}
 use Rattle.striking.specs.Status.{remaining}
 use Rattle.certificates.specs.Certificate.{joined}

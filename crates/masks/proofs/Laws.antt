@@ -1,5 +1,4 @@
--- The laws of a pass of the marks and of the table of left sets, which the layers above use instead of the definitions' text.
-pub mod Sides
+-- The laws of the table of left sets, which the layers above use instead of the definitions' text.
 pub mod Table
 pub mod Triangle
 pub mod Cross

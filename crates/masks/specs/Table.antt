@@ -20,7 +20,7 @@ use Rattle.plane.specs.Side.{area2, opposite}
 use Rattle.pairs.specs.Pairs.{pairOf}
 use Rattle.sets.specs.declared.Set.{Set}
 use Rattle.sets.specs.Sets.{lacks, both}
-use Rattle.masks.specs.Sides.{isMark, leftMark, leftSet}
+use Rattle.sides.specs.Sides.{isMark, leftMark, leftSet}
 
 abbrev pub place : ℕ → ℕ → ℕ
 place p q = p * 256 + q * 2

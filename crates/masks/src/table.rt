@@ -6,15 +6,15 @@ ghost use Rattle.plane.specs.Marks.{Plate, IsMark};
 ghost use Rattle.pairs.specs.Pairs.{pairNumber};
 ghost use Rattle.plane.specs.Hull.{kindOf};
 ghost use Rattle.sets.specs.Sets.{setOf};
-ghost use Rattle.masks.specs.Sides.{leftSet};
+ghost use Rattle.sides.specs.Sides.{leftSet};
 ghost use Rattle.masks.specs.Table.{putEntry, Table, Filled, noneLeft, splitMark};
-use super::sides::kind_by;
-use super::sides::sides_of;
 use plane::hull::Kind;
 use sets::Set;
 use sets::is_none;
 use sets::join;
 use sets::meet;
+use sides::kind_by;
+use sides::sides_of;
 
 // Writes s for (p, q).
 fn put_entry(t: &mut [u64], p: usize, q: usize, s: Set)

@@ -15,9 +15,9 @@ use Rattle.plane.proofs.Laws.Side.{L, leftOf-tells}
 use Rattle.plane.proofs.Laws.Edge.{emptyEdge-tells}
 use Rattle.plane.proofs.Laws.Hull.{OneSided, none-left, none-right, innerEdge-tells}
 use Rattle.sets.specs.Sets.{lacks, none}
-use Rattle.masks.specs.Sides.{leftMark, leftSet}
+use Rattle.sides.specs.Sides.{leftMark, leftSet}
 use Rattle.sets.proofs.Laws.Sets.{none-set}
-use Rattle.masks.proofs.Laws.Sides.{Left, left-tells}
+use Rattle.sides.proofs.Laws.{Left, left-tells}
 
 module _ (m : List ℤ) (few : count m ≤ 128) where
   -- no mark lies strictly left of a to b

@@ -13,10 +13,10 @@ use Rattle.plane.proofs.Laws.Tells.{tells-same, tells-yes, cond-yes}
 use Rattle.plane.proofs.Laws.Side.{weak, clash, rot, rot², leftOf-tells, rightOf-tells}
 use Rattle.sets.specs.declared.Set.{Set}
 use Rattle.sets.specs.Sets.{setOf, has, both, either}
-use Rattle.masks.specs.Sides.{isMark, leftMark, leftSet}
+use Rattle.sides.specs.Sides.{isMark, leftMark, leftSet}
 use Rattle.masks.specs.Table.{splitMark}
 use Rattle.sets.proofs.Laws.Sets.{has-set, set-same, both-sets, either-sets}
-use Rattle.masks.proofs.Laws.Sides.{is-mark}
+use Rattle.sides.proofs.Laws.{is-mark}
 
 -- ---- the side test with its points rotated
 left-turn : (r i p : Point) → leftOf p r i ≡ leftOf r i p

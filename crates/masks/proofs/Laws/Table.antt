@@ -20,12 +20,12 @@ use Rattle.plane.proofs.Laws.Side.{leftOf-tells, same}
 use Rattle.pairs.proofs.Laws.{pair-unique, pairOf-up, pairOf-down, pairOf-below}
 use Rattle.sets.specs.declared.Set.{Set}
 use Rattle.sets.specs.Sets.{setOf}
-use Rattle.masks.specs.Sides.{isMark, leftMark, leftSet}
+use Rattle.sides.specs.Sides.{isMark, leftMark, leftSet}
 use Rattle.masks.specs.Table.{place, entry, Table, Filled, emptySet, putEntry}
 use Rattle.sets.proofs.Laws.Numbers.{split, and-no}
 use Rattle.sets.proofs.Laws.Words.{word-empty}
 use Rattle.sets.proofs.Laws.Sets.{set-words}
-use Rattle.masks.proofs.Laws.Sides.{left-past-p, left-past-q}
+use Rattle.sides.proofs.Laws.{left-past-p, left-past-q}
 
 -- ---- where no mark is left
 empty-set : (f : ℕ → Bool) → ((i : ℕ) → f i ≡ false) → setOf f ≡ emptySet

@@ -16,11 +16,11 @@ use Rattle.plane.proofs.Laws.Tells.{tells-yes}
 use Rattle.plane.proofs.Laws.Side.{L, weak, clash, leftOf-tells, rightOf-tells}
 use Rattle.sets.specs.declared.Set.{Set}
 use Rattle.sets.specs.Sets.{setOf, has, lacks, none, both}
-use Rattle.masks.specs.Sides.{leftMark, leftSet}
+use Rattle.sides.specs.Sides.{leftMark, leftSet}
 use Rattle.masks.specs.Table.{inThree, noneLeft}
 use Rattle.sets.proofs.Laws.Numbers.{all-same, all-short}
 use Rattle.sets.proofs.Laws.Sets.{both-sets, none-set}
-use Rattle.masks.proofs.Laws.Sides.{left-right, left-mark, left-past}
+use Rattle.sides.proofs.Laws.{left-right, left-mark, left-past}
 
 -- ---- the test on three left sets
 module _ (m : List ℤ) (p q r : ℕ) where

@@ -5,7 +5,7 @@ use Prim.Native.Nat.{ℕ, _+_}
 use native.Mathlib.Omega.{arith}
 use Rattle.pairs.specs.Pairs.{pairNumber}
 use Rattle.masks.specs.Table.{Filled, putEntry}
-use Rattle.masks.proofs.Laws.Sides.{kind-found}
+use Rattle.sides.proofs.Laws.{kind-found}
 use Rattle.masks.proofs.Laws.Table.{fill-next}
 use borrow.Author.Needs.{needs}
 use Rattle.masks.proofs.table.store_pair.Statement.{statement}

@@ -22,10 +22,10 @@ use Rattle.plane.specs.Hull.{notLeft, notRight, oneSided, kindOf}
 use Rattle.plane.proofs.Laws.Numbers.{all-none}
 use Rattle.plane.proofs.Laws.Tells.{Tells, tells-map, tells-and, tells-same, cond-yes, cond-no}
 use Rattle.plane.proofs.Laws.Side.{leftOf-tells, rightOf-tells}
-use Rattle.masks.specs.declared.sides.Pass.{Pass}
-use Rattle.masks.specs.declared.sides.Sides.{Sides}
+use Rattle.sides.specs.declared.Pass.{Pass}
+use Rattle.sides.specs.declared.Sides.{Sides}
 use Rattle.sets.specs.Sets.{bit, word, setOf, has, lacks, none}
-use Rattle.masks.specs.Sides.{isMark, leftMark, leftSet, allIn, Passed, Found, kindBy}
+use Rattle.sides.specs.Sides.{isMark, leftMark, leftSet, allIn, Passed, Found, kindBy}
 use Rattle.sets.proofs.Laws.Numbers.{split, and-true, and-no, all-same, all-short}
 use Rattle.sets.proofs.Laws.Words.{word-none, word-step, word-short, word-lt}
 use Rattle.sets.proofs.Laws.Sets.{set-words, has-set, none-set}

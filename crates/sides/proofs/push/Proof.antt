@@ -3,8 +3,8 @@ use mathlib.Core.Path.{ap}
 use native.Mathlib.Omega.{arith}
 use Rattle.sets.specs.Sets.{bit}
 use borrow.Author.Needs.{needs}
-use Rattle.masks.proofs.sides.push.Statement.{statement}
-use Rattle.masks.proofs.sides.push.Tie as tie
+use Rattle.sides.proofs.push.Statement.{statement}
+use Rattle.sides.proofs.push.Tie as tie
 
 mul-result : tie.Need-mul-result
 mul-result c = search needs

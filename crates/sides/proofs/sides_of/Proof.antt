@@ -1,9 +1,9 @@
 -- `sides::sides_of` meets its contract. The two halves of the marks make the two words of each set, and the edge is clear where both halves leave it so. Assumes nothing.
 use native.Mathlib.Omega.{arith}
-use Rattle.masks.proofs.Laws.Sides.{two-halves}
+use Rattle.sides.proofs.Laws.{two-halves}
 use borrow.Author.Needs.{needs}
-use Rattle.masks.proofs.sides.sides_of.Statement.{statement}
-use Rattle.masks.proofs.sides.sides_of.Tie as tie
+use Rattle.sides.proofs.sides_of.Statement.{statement}
+use Rattle.sides.proofs.sides_of.Tie as tie
 
 count-requires : tie.Need-count-requires
 count-requires c κs = search needs

@@ -7,7 +7,7 @@ ghost use Rattle.plane.specs.Marks.{Plate, IsMark, count, mark};
 ghost use Rattle.plane.specs.Side.{side};
 ghost use Rattle.plane.specs.Edge.{clear};
 ghost use Rattle.sets.specs.Sets.{bit};
-ghost use Rattle.masks.specs.Sides.{Passed, Found, kindBy};
+ghost use Rattle.sides.specs.Sides.{Passed, Found, kindBy};
 use plane::edge::is_between;
 use plane::hull::Kind;
 use plane::marks::count;

@@ -7,10 +7,10 @@ use Rattle.plane.specs.Marks.{InRange}
 use Rattle.plane.specs.Side.{side, isLeft, isRight}
 use Rattle.plane.proofs.Laws.Bounds.{back, mark-in-range}
 use Rattle.plane.proofs.Laws.Side.{side-left, side-right}
-use Rattle.masks.specs.Sides.{Passed}
-use Rattle.masks.proofs.Laws.Sides.{found, pass-none, pass-down, room}
-use Rattle.masks.proofs.sides.pass_over.Statement.{statement}
-use Rattle.masks.proofs.sides.pass_over.Tie as tie
+use Rattle.sides.specs.Sides.{Passed}
+use Rattle.sides.proofs.Laws.{found, pass-none, pass-down, room}
+use Rattle.sides.proofs.pass_over.Statement.{statement}
+use Rattle.sides.proofs.pass_over.Tie as tie
 
 abbrev Inv-loop : tie.InvT-loop
 Inv-loop m a b lo hi p q left₀ right₀ clear₀ k₀ left right clear k = (lo ≤ k) × (k ≤ hi) × Passed m a b k (hi - k) (found left right clear)

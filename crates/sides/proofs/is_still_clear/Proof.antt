@@ -8,10 +8,10 @@ use Rattle.plane.specs.Edge.{between}
 use Rattle.plane.proofs.Laws.Bounds.{back, mark-in-range}
 use Rattle.plane.proofs.Laws.Side.{side-on}
 use Rattle.plane.proofs.Laws.Edge.{clear-at-a, clear-at-b, clear-off, clear-third}
-use Rattle.masks.proofs.Laws.Sides.{clear-past}
+use Rattle.sides.proofs.Laws.{clear-past}
 use borrow.Author.Needs.{needs}
-use Rattle.masks.proofs.sides.is_still_clear.Statement.{statement}
-use Rattle.masks.proofs.sides.is_still_clear.Tie as tie
+use Rattle.sides.proofs.is_still_clear.Statement.{statement}
+use Rattle.sides.proofs.is_still_clear.Tie as tie
 
 -- a mark that the edge is clear of changes nothing; one that it is not clear of decides
 stays : (t c : Bool) → c ≡ true → t ≡ cond t c false

@@ -5,11 +5,11 @@ use borrow.Author.Needs.{needs}
 use borrow.Author.Tests.{not-true, not-false}
 use Rattle.plane.specs.declared.hull.Kind.the-variants.{Blocked, Hull, Inner}
 use Rattle.plane.proofs.Laws.Tells.{cond-yes, cond-no}
-use Rattle.masks.specs.declared.sides.Sides.{Sides}
+use Rattle.sides.specs.declared.Sides.{Sides}
 use Rattle.sets.specs.Sets.{none}
-use Rattle.masks.specs.Sides.{kindBy}
-use Rattle.masks.proofs.sides.kind_by.Statement.{statement}
-use Rattle.masks.proofs.sides.kind_by.Tie as tie
+use Rattle.sides.specs.Sides.{kindBy}
+use Rattle.sides.proofs.kind_by.Statement.{statement}
+use Rattle.sides.proofs.kind_by.Tie as tie
 
 module _ (x : Sides) where
   blocked : not (x .clear) ≡ true → Blocked ≡ kindBy x

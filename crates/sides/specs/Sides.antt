@@ -17,8 +17,8 @@ use Rattle.plane.specs.Edge.{clear, emptyEdge}
 use Rattle.plane.specs.declared.hull.Kind.{Kind}
 use Rattle.plane.specs.declared.hull.Kind.the-variants.{Blocked, Hull, Inner}
 use Rattle.sets.specs.declared.Set.{Set}
-use Rattle.masks.specs.declared.sides.Pass.{Pass}
-use Rattle.masks.specs.declared.sides.Sides.{Sides}
+use Rattle.sides.specs.declared.Pass.{Pass}
+use Rattle.sides.specs.declared.Sides.{Sides}
 use Rattle.sets.specs.Sets.{word, setOf, none}
 
 unfoldable pub isMark : List ℤ → ℕ → Bool
