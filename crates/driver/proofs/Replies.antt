@@ -1,5 +1,5 @@
 -- How a reply reaches the caller, the result buffer long enough or not. Assumes nothing.
-use mathlib.Core.Path.{_≡_, refl, sym, ap, _∙_, subst}
+use mathlib.Core.Path.{_≡_, refl, sym, ap, ap₂, _∙_, subst}
 use mathlib.Core.List.{List, [], _∷_, _++_}
 use mathlib.Core.Bool.{Bool, true, false, cond}
 use Prim.Native.Nat.{ℕ, _+_, _*_, _/_, _≤_, _<_}
@@ -12,16 +12,12 @@ use lib.ListN.{length, drop}
 use Rattle.pairs.specs.Pairs.{pairCount, pairNumber}
 use Rattle.pairs.proofs.Laws.{pairCount-small}
 use Rattle.plane.proofs.Laws.Tells.{cond-yes, cond-no}
-use Rattle.refusals.specs.declared.Refusal.{Refusal}
-use Rattle.certificates.specs.declared.certificate.Certificate.{Certificate}
-use Rattle.skeleton.specs.declared.request.Reply.{Reply}
-use Rattle.skeleton.specs.declared.request.Reply.the-variants.{Hull, NotEmpty, Certified, Uncertified}
 use Rattle.skeleton.specs.declared.search.Outcome.{Outcome}
 use Rattle.skeleton.specs.declared.search.Outcome.the-variants.{Done, Paused}
 use Rattle.skeleton.specs.declared.request.Answer.{Answer}
 use Rattle.skeleton.specs.Answers.{answerOf, outcomeOf, statusAfter}
-use Rattle.driver.specs.Driver.{Told, told, returned, written, outcomeReply, searchReply, searchStatus}
-use Rattle.driver.specs.Driver.{certificateNumbers, answerReply, certificateReply}
+use Rattle.driver.specs.Driver.{Told, told, returned, written, outcomeNumber, outcomeNumbers, outcomeReply, searchReply, searchStatus}
+use Rattle.driver.specs.Driver.{replyNumber, replyFirst, certificateNumbers, answerReply, certificateReply}
 use Rattle.driver.specs.Driver.{isPair, pairReply, longestBudget, longestBudgetReply}
 
 -- `number` is returned and the buffer holds `now` on return, where the reply is x
@@ -51,35 +47,24 @@ pub reaches-as :
 reaches-as result {x} {y} {number} {now} e h = subst (λ (z : Told). Reaches result z number now) e h
 
 -- ---- the search
-module _ (o : Outcome) where
-  pub outcome-refused : (x : Refusal) → o ≡ Outcome.Refused x → told (x .number) (x .detail ∷ 0 ∷ []) ≡ outcomeReply o
-  unfolding outcomeReply
-  outcome-refused x e = ap outcomeReply (sym e)
-
-  pub outcome-done : (e : ℕ) → o ≡ Done e → told 0 (0 ∷ e ∷ []) ≡ outcomeReply o
-  unfolding outcomeReply
-  outcome-done e q = ap outcomeReply (sym q)
-
-  pub outcome-paused : (e : ℕ) → o ≡ Paused e → told 0 (1 ∷ e ∷ []) ≡ outcomeReply o
-  unfolding outcomeReply
-  outcome-paused e q = ap outcomeReply (sym q)
-
 module _ (m : List ℤ) (st : List ℕ) (budget : ℕ) where
-  pub outcome-of : {o : Outcome} → o ≡ outcomeOf m st budget → outcomeReply o ≡ searchReply m st budget
+  pub outcome-of :
+      {o : Outcome} {number : ℕ} {numbers : List ℕ} → o ≡ outcomeOf m st budget → number ≡ outcomeNumber o → numbers ≡ outcomeNumbers o →
+      told number numbers ≡ searchReply m st budget
   unfolding searchReply
-  outcome-of e = ap outcomeReply e
+  outcome-of e f g = ap₂ told f g ∙ ap outcomeReply e
 
 -- it tells two numbers
-pub outcome-numbers : (o : Outcome) → length (outcomeReply o .numbers) ≡ 2
-unfolding outcomeReply
-outcome-numbers (Outcome.Refused x) = refl
-outcome-numbers (Done e) = refl
-outcome-numbers (Paused e) = refl
+outcome-length : (o : Outcome) → length (outcomeNumbers o) ≡ 2
+unfolding outcomeNumbers
+outcome-length (Outcome.Refused x) = refl
+outcome-length (Done e) = refl
+outcome-length (Paused e) = refl
 
 module _ (result : List ℕ) (m : List ℤ) (st : List ℕ) (budget : ℕ) where
   pub search-short : length result < 2 → length result < length (searchReply m st budget .numbers)
   unfolding searchReply
-  search-short l = subst (λ (k : ℕ). length result < k) (sym (outcome-numbers (outcomeOf m st budget))) l
+  search-short l = subst (λ (k : ℕ). length result < k) (sym (outcome-length (outcomeOf m st budget))) l
 
   pub status-short : length result < 2 → searchStatus result m st budget ≡ st
   unfolding searchStatus
@@ -90,32 +75,13 @@ module _ (result : List ℕ) (m : List ℤ) (st : List ℕ) (budget : ℕ) where
   status-whole l = cond-no _ _ (le-ltb _ _ l)
 
 -- ---- the certificate request
-module _ (reply : Reply) (c : Certificate) where
-  pub answer-refused :
-      (x : Refusal) → reply ≡ Reply.Refused x → told (x .number) (certificateNumbers (x .detail) c) ≡ answerReply reply c
-  unfolding answerReply
-  answer-refused x e = ap (λ (r : Reply). answerReply r c) (sym e)
-
-  pub answer-hull : reply ≡ Hull → told 0 (certificateNumbers 0 c) ≡ answerReply reply c
-  unfolding answerReply
-  answer-hull e = ap (λ (r : Reply). answerReply r c) (sym e)
-
-  pub answer-not-empty : reply ≡ NotEmpty → told 0 (certificateNumbers 1 c) ≡ answerReply reply c
-  unfolding answerReply
-  answer-not-empty e = ap (λ (r : Reply). answerReply r c) (sym e)
-
-  pub answer-certified : reply ≡ Certified → told 0 (certificateNumbers 2 c) ≡ answerReply reply c
-  unfolding answerReply
-  answer-certified e = ap (λ (r : Reply). answerReply r c) (sym e)
-
-  pub answer-uncertified : reply ≡ Uncertified → told 0 (certificateNumbers 3 c) ≡ answerReply reply c
-  unfolding answerReply
-  answer-uncertified e = ap (λ (r : Reply). answerReply r c) (sym e)
-
 module _ (m : List ℤ) (st : List ℕ) (a b : ℕ) where
-  pub reply-of : {x : Answer} → x ≡ answerOf m st a b → answerReply (x .reply) (x .certificate) ≡ certificateReply m st a b
+  pub reply-of :
+      {x : Answer} {number first : ℕ} {numbers : List ℕ} → x ≡ answerOf m st a b → number ≡ replyNumber (x .reply) →
+      first ≡ replyFirst (x .reply) → numbers ≡ certificateNumbers first (x .certificate) → told number numbers ≡ certificateReply m st a b
   unfolding certificateReply
-  reply-of e = ap (λ (x : Answer). answerReply (x .reply) (x .certificate)) e
+  reply-of {x} e f g h =
+      ap₂ told f (h ∙ ap (λ (k : ℕ). certificateNumbers k (x .certificate)) g) ∙ ap answerReply e
 
 -- ---- the number of a pair
 module _ (a b : ℕ) where

@@ -42,10 +42,18 @@ written result x =
     cond (ltb (length result) (length (x .numbers))) result (x .numbers ++ drop (length (x .numbers)) result)
 
 -- ---- the search: 0 done or 1 paused, and the examinations; of a refusal its detail, and 0
-unfoldable pub outcomeReply : Outcome → Told
-outcomeReply (Outcome.Refused x) = told (x .number) (x .detail ∷ 0 ∷ [])
-outcomeReply (Done e) = told 0 (0 ∷ e ∷ [])
-outcomeReply (Paused e) = told 0 (1 ∷ e ∷ [])
+unfoldable pub outcomeNumber : Outcome → ℕ
+outcomeNumber (Outcome.Refused x) = x .number
+outcomeNumber (Done e) = 0
+outcomeNumber (Paused e) = 0
+
+unfoldable pub outcomeNumbers : Outcome → List ℕ
+outcomeNumbers (Outcome.Refused x) = x .detail ∷ 0 ∷ []
+outcomeNumbers (Done e) = 0 ∷ e ∷ []
+outcomeNumbers (Paused e) = 1 ∷ e ∷ []
+
+abbrev pub outcomeReply : Outcome → Told
+outcomeReply o = told (outcomeNumber o) (outcomeNumbers o)
 
 unfoldable pub searchReply : List ℤ → List ℕ → ℕ → Told
 searchReply m st budget = outcomeReply (outcomeOf m st budget)
@@ -56,18 +64,28 @@ searchStatus result m st budget = cond (ltb (length result) 2) st (statusAfter m
 
 -- ---- the certificate request: first 0 hull, 1 not empty, 2 certified or 3 none, and of a refusal its detail; then the certificate's apexes
 -- r and s and the numbers of its sides pr, qr, ps, qs. These six are 0 unless the pair is certified (`without` of skeleton's Answers.antt)
+unfoldable pub replyNumber : Reply → ℕ
+replyNumber (Reply.Refused x) = x .number
+replyNumber Hull = 0
+replyNumber NotEmpty = 0
+replyNumber Certified = 0
+replyNumber Uncertified = 0
+
+unfoldable pub replyFirst : Reply → ℕ
+replyFirst (Reply.Refused x) = x .detail
+replyFirst Hull = 0
+replyFirst NotEmpty = 1
+replyFirst Certified = 2
+replyFirst Uncertified = 3
+
 unfoldable pub certificateNumbers : ℕ → Certificate → List ℕ
 certificateNumbers first c = first ∷ c .r ∷ c .s ∷ c .sides
 
-unfoldable pub answerReply : Reply → Certificate → Told
-answerReply (Reply.Refused x) c = told (x .number) (certificateNumbers (x .detail) c)
-answerReply Hull c = told 0 (certificateNumbers 0 c)
-answerReply NotEmpty c = told 0 (certificateNumbers 1 c)
-answerReply Certified c = told 0 (certificateNumbers 2 c)
-answerReply Uncertified c = told 0 (certificateNumbers 3 c)
+abbrev pub answerReply : Answer → Told
+answerReply x = told (replyNumber (x .reply)) (certificateNumbers (replyFirst (x .reply)) (x .certificate))
 
 unfoldable pub certificateReply : List ℤ → List ℕ → ℕ → ℕ → Told
-certificateReply m st a b = answerReply (answerOf m st a b .reply) (answerOf m st a b .certificate)
+certificateReply m st a b = answerReply (answerOf m st a b)
 
 -- ---- the number of a pair of marks, of which there are at most 128; 101 if it is none
 unfoldable pub isPair : ℕ → ℕ → Bool

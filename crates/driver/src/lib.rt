@@ -8,8 +8,8 @@ ghost use mathlib.Core.List.{_++_};
 ghost use Prim.Native.Nat.{_≤_};
 ghost use lib.ListN.{length, drop};
 ghost use Rattle.driver.specs.Driver.{version, told, returned, written};
-ghost use Rattle.driver.specs.Driver.{outcomeReply, searchReply, searchStatus};
-ghost use Rattle.driver.specs.Driver.{certificateNumbers, answerReply, certificateReply};
+ghost use Rattle.driver.specs.Driver.{outcomeNumber, outcomeNumbers, searchReply, searchStatus};
+ghost use Rattle.driver.specs.Driver.{replyNumber, replyFirst, certificateNumbers, certificateReply};
 ghost use Rattle.driver.specs.Driver.{isPair, pairReply, longestBudgetReply};
 use certificates::certificate::Certificate;
 use pairs::pair_count;
@@ -68,25 +68,25 @@ fn tell(result: &mut [u64], number: u32, numbers: &[u64]) -> u32
 
 // ---- the search
 
-// Tells how a search ended.
-fn tell_outcome(result: &mut [u64], o: Outcome) -> u32
-    ensures returned { λ r. ⌜ r ≡ returned (now (result .entry)) (outcomeReply o) ⌝ }
-    ensures written { λ r. ⌜ now (result .exit) ≡ written (now (result .entry)) (outcomeReply o) ⌝ }
+// The status number of a search.
+fn outcome_number(o: Outcome) -> u32
+    ensures number { λ r. ⌜ r ≡ outcomeNumber o ⌝ }
 {
     match o {
-        Outcome::Refused(f) => {
-            let number = f.number as u32;
-            let numbers = [f.detail as u64, 0];
-            tell(result, number, &numbers)
-        }
-        Outcome::Done(e) => {
-            let numbers = [DONE, e as u64];
-            tell(result, 0, &numbers)
-        }
-        Outcome::Paused(e) => {
-            let numbers = [PAUSED, e as u64];
-            tell(result, 0, &numbers)
-        }
+        Outcome::Refused(f) => f.number as u32,
+        Outcome::Done(_) => 0,
+        Outcome::Paused(_) => 0,
+    }
+}
+
+// What a search tells beside it.
+fn outcome_numbers(o: Outcome) -> [u64; 2]
+    ensures numbers { λ r. ⌜ r ≡ outcomeNumbers o ⌝ }
+{
+    match o {
+        Outcome::Refused(f) => [f.detail as u64, 0],
+        Outcome::Done(e) => [DONE, e as u64],
+        Outcome::Paused(e) => [PAUSED, e as u64],
     }
 }
 
@@ -106,12 +106,39 @@ pub extern "C" fn skeleton_search(
         return SHORT;
     }
     let o = search(marks, status, budget);
-    tell_outcome(result, o)
+    let numbers = outcome_numbers(o);
+    tell(result, outcome_number(o), &numbers)
 }
 
 // ---- the certificate request
 
-// The numbers of a certificate, behind one that says what the pair is.
+// The status number of a request.
+fn reply_number(reply: Reply) -> u32
+    ensures number { λ r. ⌜ r ≡ replyNumber reply ⌝ }
+{
+    match reply {
+        Reply::Refused(f) => f.number as u32,
+        Reply::Hull => 0,
+        Reply::NotEmpty => 0,
+        Reply::Certified => 0,
+        Reply::Uncertified => 0,
+    }
+}
+
+// What the pair is, or a refusal's detail.
+fn reply_first(reply: Reply) -> u64
+    ensures first { λ r. ⌜ r ≡ replyFirst reply ⌝ }
+{
+    match reply {
+        Reply::Refused(f) => f.detail as u64,
+        Reply::Hull => HULL,
+        Reply::NotEmpty => NOT_EMPTY,
+        Reply::Certified => CERTIFIED,
+        Reply::Uncertified => NONE,
+    }
+}
+
+// That, and the numbers of the certificate.
 fn certificate_numbers(first: u64, c: Certificate) -> [u64; 7]
     ensures numbers { λ r. ⌜ r ≡ certificateNumbers first c ⌝ }
 {
@@ -125,36 +152,6 @@ fn certificate_numbers(first: u64, c: Certificate) -> [u64; 7]
         sides[2] as u64,
         sides[3] as u64,
     ]
-}
-
-// Tells what the certificate request answered.
-fn tell_answer(result: &mut [u64], reply: Reply, c: Certificate) -> u32
-    ensures returned { λ r. ⌜ r ≡ returned (now (result .entry)) (answerReply reply c) ⌝ }
-    ensures written { λ r. ⌜ now (result .exit) ≡ written (now (result .entry)) (answerReply reply c) ⌝ }
-{
-    match reply {
-        Reply::Refused(f) => {
-            let number = f.number as u32;
-            let numbers = certificate_numbers(f.detail as u64, c);
-            tell(result, number, &numbers)
-        }
-        Reply::Hull => {
-            let numbers = certificate_numbers(HULL, c);
-            tell(result, 0, &numbers)
-        }
-        Reply::NotEmpty => {
-            let numbers = certificate_numbers(NOT_EMPTY, c);
-            tell(result, 0, &numbers)
-        }
-        Reply::Certified => {
-            let numbers = certificate_numbers(CERTIFIED, c);
-            tell(result, 0, &numbers)
-        }
-        Reply::Uncertified => {
-            let numbers = certificate_numbers(NONE, c);
-            tell(result, 0, &numbers)
-        }
-    }
 }
 
 // The certificate request for the pair (a, b), in the set of the empty edges whose byte is not 0.
@@ -171,8 +168,8 @@ pub extern "C" fn skeleton_certificate(
 {
     let x = request(marks, status, a, b);
     let reply = x.reply;
-    let c = x.certificate;
-    tell_answer(result, reply, c)
+    let numbers = certificate_numbers(reply_first(reply), x.certificate);
+    tell(result, reply_number(reply), &numbers)
 }
 
 // ---- numbers alone
