@@ -1,6 +1,9 @@
 -- How a reply reaches the caller, the result buffer long enough or not. Assumes nothing.
 use mathlib.Core.Path.{_≡_, refl, sym, ap, ap₂, _∙_, subst}
 use mathlib.Core.List.{List, [], _∷_, _++_}
+use mathlib.Core.Logic.{⊎-elim}
+use types.Run.{OneOf}
+use denote.Enum.Declared.{tagOf}
 use mathlib.Core.Bool.{Bool, true, false, cond}
 use Prim.Native.Nat.{ℕ, _+_, _*_, _/_, _≤_, _<_}
 use native.Mathlib.Nat.{le-trans, mul-le-mul-left, mul-le-mul-right}
@@ -12,12 +15,16 @@ use lib.ListN.{length, drop}
 use Rattle.pairs.specs.Pairs.{pairCount, pairNumber}
 use Rattle.pairs.proofs.Laws.{pairCount-small}
 use Rattle.plane.proofs.Laws.Tells.{cond-yes, cond-no}
+use Rattle.skeleton.specs.declared.request.Reply.{Reply}
+use Rattle.skeleton.specs.declared.request.Reply.the-variants.{Hull, NotEmpty, Certified, Uncertified}
+use Rattle.skeleton.proofs.request.Reply as reply
+use Rattle.skeleton.proofs.search.Outcome as outcome
 use Rattle.skeleton.specs.declared.search.Outcome.{Outcome}
 use Rattle.skeleton.specs.declared.search.Outcome.the-variants.{Done, Paused}
 use Rattle.skeleton.specs.declared.request.Answer.{Answer}
-use Rattle.skeleton.specs.Answers.{answerOf, outcomeOf, statusAfter}
-use Rattle.driver.specs.Driver.{Told, told, returned, written, outcomeNumber, outcomeNumbers, outcomeReply, searchReply, searchStatus}
-use Rattle.driver.specs.Driver.{replyNumber, replyFirst, certificateNumbers, answerReply, certificateReply}
+use Rattle.skeleton.specs.Answers.{answerOf, outcomeOf, statusAfter, shownReply, shownOutcome}
+use Rattle.driver.specs.Driver.{Told, told, returned, written, outcomeNumbers, outcomeReply, searchReply, searchStatus}
+use Rattle.driver.specs.Driver.{replyFirst, certificateNumbers, answerReply, certificateReply}
 use Rattle.driver.specs.Driver.{isPair, pairReply, longestBudget, longestBudgetReply}
 
 -- `number` is returned and the buffer holds `now` on return, where the reply is x
@@ -49,10 +56,17 @@ reaches-as result {x} {y} {number} {now} e h = subst (λ (z : Told). Reaches res
 -- ---- the search
 module _ (m : List ℤ) (st : List ℕ) (budget : ℕ) where
   pub outcome-of :
-      {o : Outcome} {number : ℕ} {numbers : List ℕ} → o ≡ outcomeOf m st budget → number ≡ outcomeNumber o → numbers ≡ outcomeNumbers o →
+      {o : Outcome} {number : ℕ} {numbers : List ℕ} → o ≡ outcomeOf m st budget → number ≡ shownOutcome o .number → numbers ≡ outcomeNumbers o →
       told number numbers ≡ searchReply m st budget
   unfolding searchReply
   outcome-of e f g = ap₂ told f g ∙ ap outcomeReply e
+
+-- what is not the first of its cases shows no number
+pub outcome-unrefused : (o : Outcome) → OneOf (1 ∷ 2 ∷ []) (tagOf outcome.the-type o) → 0 ≡ shownOutcome o .number
+unfolding shownOutcome
+outcome-unrefused (Outcome.Refused x) k = absurd (⊎-elim (λ e. omega arith) (λ e. omega arith) k)
+outcome-unrefused (Done e) k = refl
+outcome-unrefused (Paused e) k = refl
 
 -- it tells two numbers
 outcome-length : (o : Outcome) → length (outcomeNumbers o) ≡ 2
@@ -75,9 +89,18 @@ module _ (result : List ℕ) (m : List ℤ) (st : List ℕ) (budget : ℕ) where
   status-whole l = cond-no _ _ (le-ltb _ _ l)
 
 -- ---- the certificate request
+pub reply-unrefused : (r : Reply) → OneOf (1 ∷ 2 ∷ 3 ∷ 4 ∷ []) (tagOf reply.the-type r) → 0 ≡ shownReply r .number
+unfolding shownReply
+reply-unrefused (Reply.Refused x) k =
+    absurd (⊎-elim (λ e. omega arith) (λ l. ⊎-elim (λ e. omega arith) (λ i. ⊎-elim (λ e. omega arith) (λ e. omega arith) i) l) k)
+reply-unrefused Hull k = refl
+reply-unrefused NotEmpty k = refl
+reply-unrefused Certified k = refl
+reply-unrefused Uncertified k = refl
+
 module _ (m : List ℤ) (st : List ℕ) (a b : ℕ) where
   pub reply-of :
-      {x : Answer} {number first : ℕ} {numbers : List ℕ} → x ≡ answerOf m st a b → number ≡ replyNumber (x .reply) →
+      {x : Answer} {number first : ℕ} {numbers : List ℕ} → x ≡ answerOf m st a b → number ≡ shownReply (x .reply) .number →
       first ≡ replyFirst (x .reply) → numbers ≡ certificateNumbers first (x .certificate) → told number numbers ≡ certificateReply m st a b
   unfolding certificateReply
   reply-of {x} e f g h =

@@ -19,7 +19,7 @@ use Rattle.skeleton.specs.declared.request.Reply.the-variants.{Hull, NotEmpty, 
 use Rattle.skeleton.specs.declared.request.Answer.{Answer}
 use Rattle.skeleton.specs.declared.search.Outcome.{Outcome}
 use Rattle.skeleton.specs.declared.search.Outcome.the-variants.{Done, Paused}
-use Rattle.skeleton.specs.Answers.{answerOf, outcomeOf, statusAfter}
+use Rattle.skeleton.specs.Answers.{answerOf, outcomeOf, statusAfter, shownReply, shownOutcome}
 
 abbrev pub version : ℕ
 version = 1
@@ -42,18 +42,13 @@ written result x =
     cond (ltb (length result) (length (x .numbers))) result (x .numbers ++ drop (length (x .numbers)) result)
 
 -- ---- the search: 0 done or 1 paused, and the examinations; of a refusal its detail, and 0
-unfoldable pub outcomeNumber : Outcome → ℕ
-outcomeNumber (Outcome.Refused x) = x .number
-outcomeNumber (Done e) = 0
-outcomeNumber (Paused e) = 0
-
 unfoldable pub outcomeNumbers : Outcome → List ℕ
 outcomeNumbers (Outcome.Refused x) = x .detail ∷ 0 ∷ []
 outcomeNumbers (Done e) = 0 ∷ e ∷ []
 outcomeNumbers (Paused e) = 1 ∷ e ∷ []
 
 abbrev pub outcomeReply : Outcome → Told
-outcomeReply o = told (outcomeNumber o) (outcomeNumbers o)
+outcomeReply o = told (shownOutcome o .number) (outcomeNumbers o)
 
 unfoldable pub searchReply : List ℤ → List ℕ → ℕ → Told
 searchReply m st budget = outcomeReply (outcomeOf m st budget)
@@ -64,13 +59,6 @@ searchStatus result m st budget = cond (ltb (length result) 2) st (statusAfter m
 
 -- ---- the certificate request: first 0 hull, 1 not empty, 2 certified or 3 none, and of a refusal its detail; then the certificate's apexes
 -- r and s and the numbers of its sides pr, qr, ps, qs. These six are 0 unless the pair is certified (`without` of skeleton's Answers.antt)
-unfoldable pub replyNumber : Reply → ℕ
-replyNumber (Reply.Refused x) = x .number
-replyNumber Hull = 0
-replyNumber NotEmpty = 0
-replyNumber Certified = 0
-replyNumber Uncertified = 0
-
 unfoldable pub replyFirst : Reply → ℕ
 replyFirst (Reply.Refused x) = x .detail
 replyFirst Hull = 0
@@ -82,7 +70,7 @@ unfoldable pub certificateNumbers : ℕ → Certificate → List ℕ
 certificateNumbers first c = first ∷ c .r ∷ c .s ∷ c .sides
 
 abbrev pub answerReply : Answer → Told
-answerReply x = told (replyNumber (x .reply)) (certificateNumbers (replyFirst (x .reply)) (x .certificate))
+answerReply x = told (shownReply (x .reply) .number) (certificateNumbers (replyFirst (x .reply)) (x .certificate))
 
 unfoldable pub certificateReply : List ℤ → List ℕ → ℕ → ℕ → Told
 certificateReply m st a b = answerReply (answerOf m st a b)

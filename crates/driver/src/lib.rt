@@ -7,9 +7,10 @@ ghost use mathlib.Core.Path.{_≡_};
 ghost use mathlib.Core.List.{_++_};
 ghost use Prim.Native.Nat.{_≤_};
 ghost use lib.ListN.{length, drop};
+ghost use Rattle.skeleton.specs.Answers.{shownReply, shownOutcome};
 ghost use Rattle.driver.specs.Driver.{version, told, returned, written};
-ghost use Rattle.driver.specs.Driver.{outcomeNumber, outcomeNumbers, searchReply, searchStatus};
-ghost use Rattle.driver.specs.Driver.{replyNumber, replyFirst, certificateNumbers, certificateReply};
+ghost use Rattle.driver.specs.Driver.{outcomeNumbers, searchReply, searchStatus};
+ghost use Rattle.driver.specs.Driver.{replyFirst, certificateNumbers, certificateReply};
 ghost use Rattle.driver.specs.Driver.{isPair, pairReply, longestBudgetReply};
 use certificates::certificate::Certificate;
 use pairs::pair_count;
@@ -70,13 +71,12 @@ fn tell(result: &mut [u64], number: u32, numbers: &[u64]) -> u32
 
 // The status number of a search.
 fn outcome_number(o: Outcome) -> u32
-    ensures number { λ r. ⌜ r ≡ outcomeNumber o ⌝ }
+    ensures number { λ r. ⌜ r ≡ shownOutcome o .number ⌝ }
 {
-    match o {
-        Outcome::Refused(f) => f.number as u32,
-        Outcome::Done(_) => 0,
-        Outcome::Paused(_) => 0,
+    if let Outcome::Refused(f) = o {
+        return f.number as u32;
     }
+    0
 }
 
 // What a search tells beside it.
@@ -114,15 +114,12 @@ pub extern "C" fn skeleton_search(
 
 // The status number of a request.
 fn reply_number(reply: Reply) -> u32
-    ensures number { λ r. ⌜ r ≡ replyNumber reply ⌝ }
+    ensures number { λ r. ⌜ r ≡ shownReply reply .number ⌝ }
 {
-    match reply {
-        Reply::Refused(f) => f.number as u32,
-        Reply::Hull => 0,
-        Reply::NotEmpty => 0,
-        Reply::Certified => 0,
-        Reply::Uncertified => 0,
+    if let Reply::Refused(f) = reply {
+        return f.number as u32;
     }
+    0
 }
 
 // What the pair is, or a refusal's detail.
