@@ -4,6 +4,7 @@ pub mod First
 pub mod Sides
 pub mod Lawful
 pub mod Pairs
+pub mod Worked
 pub mod Counting
 pub mod Near
 pub mod Crossing

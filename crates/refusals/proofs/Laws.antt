@@ -149,6 +149,12 @@ module _ (m : List ℤ) where
   row-small n d (row3 x s o p) = omega arith
   row-small n d (row4 x s o p) = omega arith
 
+  pub row-positive : (n d : ℕ) → Row m n d → 0 < n
+  row-positive n d (row1 x o p) = omega arith
+  row-positive n d (row2 x o p) = omega arith
+  row-positive n d (row3 x s o p) = omega arith
+  row-positive n d (row4 x s o p) = omega arith
+
   above-none : {n d : ℕ} → Row m n d → n < 5
   above-none {n} {d} r = let l = row-small n d r in omega arith
 

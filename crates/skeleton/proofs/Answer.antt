@@ -4,7 +4,8 @@ use mathlib.Core.Path.{_≡_, refl, sym, ap, _∙_, subst}
 use mathlib.Core.Logic.{_↔_, ⊎-elim}
 use mathlib.Core.Bool.{Bool, true, false, not, cond}
 use mathlib.Core.List.{List}
-use Prim.Native.Nat.{ℕ}
+use Prim.Native.Nat.{ℕ, _<_}
+use native.Mathlib.Omega.{arith}
 use lib.Dec.{eqb}
 use lib.ListN.{getD}
 use lib.IntN.{ℤ}
@@ -24,14 +25,14 @@ use Rattle.certificates.specs.declared.certificate.Pick.the-variants.{Nothing, 
 use Rattle.certificates.specs.Certificate.{IsCertificate, firstCertificate}
 use Rattle.certificates.specs.Plate.{pairsOf, edgesOf}
 use Rattle.certificates.specs.Rule9.{IsPair}
-use Rattle.skeleton.specs.Answers.{requestRefusal, without, answerWith, answerIn, unlessRefused, answerOf}
+use Rattle.skeleton.specs.Answers.{requestRefusal, without, answerWith, answerIn, unlessRefused, answerOf, shownReply, shownRequest}
 use Rattle.skeleton.specs.Table.{RequestRow, pair, Lowest, None, IsAnswer, refused, not-empty, hull, certified, uncertified}
 use Rattle.certificates.proofs.Rule7.{certificate-besides}
 use Rattle.certificates.proofs.First.{nothing-none, found-first, first-found, first-same, none-nothing}
 use Rattle.certificates.proofs.Rule5.{hull-empty, inner-empty, inner-not-hull, rest-inner}
 use Rattle.certificates.proofs.Pairs.{pair-first}
-use Rattle.skeleton.proofs.Settled.{settled-exactly, settled-none}
-use Rattle.skeleton.proofs.Table.{pair-cases, request-settled}
+use Rattle.skeleton.proofs.Settled.{same-refusal, settled-exactly, settled-none}
+use Rattle.skeleton.proofs.Table.{pair-cases, request-settled, request-row-positive}
 
 -- ---- the answer
 module _ (m : List ℤ) (st : List ℕ) (a b : ℕ) where
@@ -88,6 +89,44 @@ module _ (m : List ℤ) (st : List ℕ) (a b : ℕ) where
       of-verdict Accepted e =
           subst (IsAnswer m st a b) (sym (answer-accepted e))
           (of-kind (request-none .0 e) (emptyEdge m a b) refl (hullEdge m a b) refl)
+
+-- ---- what the controller shows of it
+module _ (m : List ℤ) (st : List ℕ) (a b : ℕ) where
+  -- an answer that is no refusal shows nothing
+  module _ (n : None (RequestRow m st a b)) where
+    shows-nothing : (x : Refusal) → 0 < x .number → (record { number = 0; detail = 0 } ≡ x) ↔ Lowest (RequestRow m st a b) x
+    shows-nothing x l = (
+      λ q. let k = ap (λ (y : Refusal). y .number) q in absurd (let z : ⊥ = omega arith in z),
+      λ h. absurd (n _ _ (h .applies)),
+    )
+
+  pub shown-lowest : (x : Refusal) → 0 < x .number → (shownRequest m st a b ≡ x) ↔ Lowest (RequestRow m st a b) x
+  unfolding shownReply without
+  shown-lowest x l = go (the-answer m st a b)
+    where
+      go : {y : Answer} → IsAnswer m st a b y → (shownReply (y .reply) ≡ x) ↔ Lowest (RequestRow m st a b) x
+      go (refused y h) = (
+        λ e. subst (Lowest (RequestRow m st a b)) e h,
+        λ k. same-refusal (sym (request-refused m st a b y .1 h) ∙ request-refused m st a b x .1 k),
+      )
+      go (not-empty n e) = shows-nothing n x l
+      go (hull n h) = shows-nothing n x l
+      go (certified n h r s f) = shows-nothing n x l
+      go (uncertified n h f) = shows-nothing n x l
+
+  pub shown-nothing : (shownRequest m st a b .number ≡ 0) ↔ None (RequestRow m st a b)
+  unfolding shownReply without
+  shown-nothing = go (the-answer m st a b)
+    where
+      go : {y : Answer} → IsAnswer m st a b y → (shownReply (y .reply) .number ≡ 0) ↔ None (RequestRow m st a b)
+      go (refused y h) = (
+        λ e. let l = request-row-positive m st a b _ _ (h .applies) in absurd (let z : ⊥ = omega arith in z),
+        λ n. absurd (n _ _ (h .applies)),
+      )
+      go (not-empty n e) = (λ q. n, λ k. refl)
+      go (hull n h) = (λ q. n, λ k. refl)
+      go (certified n h r s f) = (λ q. n, λ k. refl)
+      go (uncertified n h f) = (λ q. n, λ k. refl)
 
 -- ---- the byte of the pair itself
 pub none-pair : (m : List ℤ) (st : List ℕ) (a b : ℕ) → None (RequestRow m st a b) → IsPair m a b

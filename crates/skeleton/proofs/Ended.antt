@@ -1,9 +1,9 @@
--- How a search of a plate ends: refused before it began, or as the theory of striking says. Assumes nothing.
+-- How a search of a plate ends: refused before it began, or as the theory of striking says; and what the controller shows of it. Assumes nothing.
 use mathlib.Core.Path.{_≡_, refl, sym, ap, _∙_}
 use mathlib.Core.Logic.{_↔_, _⊎_, inl, inr}
 use mathlib.Core.Bool.{false}
 use mathlib.Core.List.{List}
-use Prim.Native.Nat.{ℕ}
+use Prim.Native.Nat.{ℕ, _<_}
 use native.Mathlib.Omega.{arith}
 use lib.IntN.{ℤ}
 use Rattle.refusals.specs.declared.Refusal.{Refusal}
@@ -14,10 +14,14 @@ use Rattle.striking.specs.Search as any
 use Rattle.skeleton.specs.declared.search.Outcome.{Outcome}
 use Rattle.skeleton.specs.declared.search.Outcome.the-variants.{Done, Paused}
 use Rattle.certificates.specs.Plate.{plate}
-use Rattle.skeleton.specs.Answers.{searchRefusal, told, outcomeAfter, outcomeOf, bytesAfter, statusAfter, Unrefused}
+use Rattle.skeleton.specs.Answers.{searchRefusal, told, outcomeAfter, outcomeOf, bytesAfter, statusAfter, shownOutcome, shownSearch}
 use Rattle.skeleton.specs.Table.{SearchRow, Lowest, None}
 use Rattle.skeleton.proofs.Settled.{not-accepted, same-refusal, settled-exactly, settled-none}
-use Rattle.skeleton.proofs.Table.{refusalIn, search-settled}
+use Rattle.skeleton.proofs.Table.{refusalIn, search-settled, search-row-positive}
+
+-- the outcome is no refusal
+abbrev Unrefused : Outcome → Type 0
+Unrefused o = (x : Refusal) → o ≡ Outcome.Refused x → ⊥
 
 module _ (m : List ℤ) (st : List ℕ) (budget : ℕ) where
   abbrev it : Result
@@ -94,10 +98,11 @@ module _ (m : List ℤ) (st : List ℕ) (budget : ℕ) where
           let e : record { number = 8; detail = i } ≡ x = cc in
           inr (ok, sym (ap (λ (y : Refusal). y .number) e), f ∙ ap (λ (y : Refusal). answer8 (y .detail)) e)
 
+  -- the search was made, and did not end with answer 8
   abbrev pub Free : Type 0
   Free = (searchRefusal m st ≡ Accepted) × (isAnswer8 (it .outcome) ≡ false)
 
-  pub unrefused-search : Unrefused (outcomeOf m st budget) → Free
+  unrefused-search : Unrefused (outcomeOf m st budget) → Free
   unfolding isAnswer8
   unrefused-search u = go ended (λ x q. u x q)
     where
@@ -120,15 +125,78 @@ accepted-in (Outcome.Refused y) = (λ e. not-accepted (sym e), λ u. absurd (u y
 accepted-in (Done e) = (λ q x f. not-accepted (ap refusalIn f), λ u. refl)
 accepted-in (Paused e) = (λ q x f. not-accepted (ap refusalIn f), λ u. refl)
 
+-- ---- what the controller shows of an outcome
+shown-refused : (o : Outcome) (x : Refusal) → 0 < x .number → (shownOutcome o ≡ x) ↔ (o ≡ Outcome.Refused x)
+unfolding shownOutcome
+shown-refused (Outcome.Refused y) x l = (λ e. ap Outcome.Refused e, λ e. ap shownOutcome e)
+shown-refused (Done e) x l =
+    (λ q. let n = ap (λ (y : Refusal). y .number) q in absurd (let z : ⊥ = omega arith in z), λ q. ap shownOutcome q)
+shown-refused (Paused e) x l =
+    (λ q. let n = ap (λ (y : Refusal). y .number) q in absurd (let z : ⊥ = omega arith in z), λ q. ap shownOutcome q)
+
+-- no refusal has the number 0
+shown-none : (o : Outcome) → ((x : Refusal) → o ≡ Outcome.Refused x → 0 < x .number) → (shownOutcome o .number ≡ 0) ↔ Unrefused o
+unfolding shownOutcome
+shown-none (Outcome.Refused y) f =
+    (λ e. let l = f y refl in absurd (let z : ⊥ = omega arith in z), λ u. absurd (u y refl))
+shown-none (Done e) f = (λ q x h. let z : _≡_ {A = ℕ} 0 1 = cc in absurd (omega arith), λ u. refl)
+shown-none (Paused e) f = (λ q x h. let z : _≡_ {A = ℕ} 0 1 = cc in absurd (omega arith), λ u. refl)
+
 module _ (m : List ℤ) (st : List ℕ) (budget : ℕ) where
-  pub search-refused : (x : Refusal) → (outcomeOf m st budget ≡ Outcome.Refused x) ↔ Lowest (SearchRow m st budget) x
-  search-refused x =
+  refused-lowest : (x : Refusal) → (outcomeOf m st budget ≡ Outcome.Refused x) ↔ Lowest (SearchRow m st budget) x
+  refused-lowest x =
       let s = settled-exactly (search-settled m st budget) x in
       let r = refused-in (outcomeOf m st budget) x in
       (λ e. s .0 (r .1 e), λ l. r .0 (s .1 l))
 
-  pub search-unrefused : Unrefused (outcomeOf m st budget) ↔ None (SearchRow m st budget)
+  numbered : (x : Refusal) → outcomeOf m st budget ≡ Outcome.Refused x → 0 < x .number
+  numbered x e = search-row-positive m st budget _ _ (refused-lowest x .0 e .applies)
+
+  shown-unrefused : (shownSearch m st budget .number ≡ 0) ↔ Unrefused (outcomeOf m st budget)
+  shown-unrefused = shown-none (outcomeOf m st budget) numbered
+
+  pub search-refused : (x : Refusal) → 0 < x .number → (shownSearch m st budget ≡ x) ↔ Lowest (SearchRow m st budget) x
+  search-refused x l =
+      let s = shown-refused (outcomeOf m st budget) x l in
+      let r = refused-lowest x in
+      (λ e. r .0 (s .0 e), λ h. s .1 (r .1 h))
+
+  pub search-unrefused : (shownSearch m st budget .number ≡ 0) ↔ None (SearchRow m st budget)
   search-unrefused =
       let s = settled-none (search-settled m st budget) in
       let r = accepted-in (outcomeOf m st budget) in
-      (λ u. s .0 (r .1 u), λ n. r .0 (s .1 n))
+      let u = shown-unrefused in
+      (λ e. s .0 (r .1 (u .0 e)), λ n. u .1 (r .0 (s .1 n)))
+
+  -- nothing is refused: the search was made, and did not end with answer 8
+  pub unrefused-free : shownSearch m st budget .number ≡ 0 → Free m st budget
+  unrefused-free e = unrefused-search m st budget (shown-unrefused .0 e)
+
+  -- a number is shown: it came before the search, or is its answer 8
+  pub shown-reason : 0 < shownSearch m st budget .number → Reason m st budget (shownSearch m st budget)
+  shown-reason l = refused-search m st budget _ (shown-refused (outcomeOf m st budget) _ l .0 refl)
+
+  -- done or paused, nothing is shown
+  pub done-shows : (e : ℕ) → outcomeOf m st budget ≡ Done e → shownSearch m st budget .number ≡ 0
+  unfolding shownOutcome
+  done-shows e q = ap (λ (o : Outcome). shownOutcome o .number) q
+
+  pub paused-shows : (e : ℕ) → outcomeOf m st budget ≡ Paused e → shownSearch m st budget .number ≡ 0
+  unfolding shownOutcome
+  paused-shows e q = ap (λ (o : Outcome). shownOutcome o .number) q
+
+  -- without answer 8 the search was refused before it began, or is free of it
+  pub not-8 :
+      (shownSearch m st budget .number ≡ 8 → ⊥) → searchRefusal m st ≡ Accepted → isAnswer8 (it m st budget .outcome) ≡ false
+  unfolding isAnswer8 outcomeOf outcomeAfter told shownOutcome
+  not-8 n ok = go (it m st budget .outcome) refl
+    where
+      shows : (i : ℕ) → it m st budget .outcome ≡ answer8 i → shownSearch m st budget .number ≡ 8
+      shows i e =
+          ap (λ (v : Verdict). shownOutcome (outcomeAfter v (it m st budget)) .number) ok ∙
+          ap (λ (o : any.Outcome). shownOutcome (told o (it m st budget .examinations)) .number) e
+
+      go : (o : any.Outcome) → it m st budget .outcome ≡ o → isAnswer8 o ≡ false
+      go done e = refl
+      go paused e = refl
+      go (answer8 i) e = absurd (n (shows i e))

@@ -6,12 +6,10 @@ use mathlib.Core.List.{List}
 use Prim.Native.Nat.{ℕ, _<_}
 use lib.ListN.{getD}
 use lib.IntN.{ℤ}
-use Rattle.refusals.specs.declared.Verdict.the-variants.{Accepted}
 use Rattle.pairs.specs.Pairs.{pairNumber, pairAt}
-use Rattle.plane.specs.Hull.{innerEdge}
+use Rattle.plane.specs.Hull.{hullEdge, innerEdge}
 use Rattle.pairs.proofs.Laws.{pairAt-numbered, pairAt-number}
 use Rattle.striking.specs.System.{due}
-use Rattle.striking.specs.Status.{remaining}
 use Rattle.striking.specs.Search.{answer8, isAnswer8, search, remainingSet, byte}
 use Rattle.striking.proofs.Tests.{not-both, second-of}
 use Rattle.striking.proofs.System.{due-in, due-inner}
@@ -19,11 +17,13 @@ use Rattle.striking.proofs.Theorems as striking
 use Rattle.certificates.specs.Certificate.{crossing, HasCertificate}
 use Rattle.certificates.specs.Plate.{pairsOf, edgesOf, isPair, innerPair, crossPairs, plate}
 use Rattle.certificates.specs.Rule9.{IsPair, Kept}
-use Rattle.skeleton.specs.Answers.{searchRefusal, outcomeOf, byteAfter, remainsAfter, Unrefused}
+use Rattle.skeleton.specs.Answers.{byteAfter, remainingEdges, shownSearch}
 use Rattle.certificates.proofs.Sides.{certificate-edges}
 use Rattle.certificates.proofs.Lawful.{lawful, has-certified}
+use Rattle.certificates.proofs.Rule5.{hull-empty, hull-not-inner}
+use Rattle.certificates.proofs.Pairs.{edge-at, inner-at}
 use Rattle.skeleton.proofs.Crossed.{kept-number, uncrossed-pairs, crossed-pairs}
-use Rattle.skeleton.proofs.Ended.{status-accepted, unrefused-search}
+use Rattle.skeleton.proofs.Ended.{status-accepted, unrefused-free}
 
 -- ---- what remains
 module _ (m : List ℤ) (budget : ℕ) where
@@ -63,61 +63,53 @@ module _ (m : List ℤ) (budget : ℕ) where
       )
 
 -- ---- the bytes of a search that is not refused
-module _ (m : List ℤ) (st : List ℕ) (budget : ℕ) (u : Unrefused (outcomeOf m st budget)) where
-  pub ok : searchRefusal m st ≡ Accepted
-  ok = unrefused-search m st budget u .0
-
-  pub free : isAnswer8 (search (plate m) budget .outcome) ≡ false
-  free = unrefused-search m st budget u .1
-
-  pub remains-is : remainsAfter m st budget ≡ pairsOf (remainingSet (plate m) budget)
-  remains-is =
-      ap pairsOf (ap remaining (status-accepted m st budget ok) ∙ striking.status-remaining (plate m) (lawful m) budget free)
+module _ (m : List ℤ) (st : List ℕ) (budget : ℕ) (u : shownSearch m st budget .number ≡ 0) where
+  free : isAnswer8 (search (plate m) budget .outcome) ≡ false
+  free = unrefused-free m st budget u .1
 
   module _ (a b : ℕ) where
     byte-is : byteAfter m st budget a b ≡ byte (search (plate m) budget) (pairNumber a b)
-    byte-is = ap (λ (s : List ℕ). getD s (pairNumber a b) 0) (status-accepted m st budget ok)
+    byte-is = ap (λ (s : List ℕ). getD s (pairNumber a b) 0) (status-accepted m st budget (unrefused-free m st budget u .0))
 
-    at : remainsAfter m st budget a b ≡ remainingSet (plate m) budget (pairNumber a b)
+    pub byte-zero : (byteAfter m st budget a b ≡ 0) ↔ (remainingEdges m budget a b ≡ false)
     unfolding pairsOf
-    at = ap (λ (K : ℕ → ℕ → Bool). K a b) remains-is
-
-    there : {c d : ℕ} → Kept m (remainsAfter m st budget) c d → Kept m (pairsOf (remainingSet (plate m) budget)) c d
-    there {c} {d} k = subst (λ (K : ℕ → ℕ → Bool). Kept m K c d) remains-is k
-
-    back : {c d : ℕ} → Kept m (pairsOf (remainingSet (plate m) budget)) c d → Kept m (remainsAfter m st budget) c d
-    back {c} {d} k = subst (λ (K : ℕ → ℕ → Bool). Kept m K c d) (sym remains-is) k
-
-    pub byte-zero : (byteAfter m st budget a b ≡ 0) ↔ (remainsAfter m st budget a b ≡ false)
     byte-zero =
         let s = striking.impossible-exactly (plate m) (lawful m) budget free (pairNumber a b) in
-        (λ h. at ∙ s .0 (sym byte-is ∙ h), λ h. byte-is ∙ s .1 (sym at ∙ h))
+        (λ h. s .0 (sym byte-is ∙ h), λ h. byte-is ∙ s .1 h)
 
     pub byte-two :
         IsPair m a b →
         (byteAfter m st budget a b ≡ 2) ↔
-        ((remainsAfter m st budget a b ≡ true) ×
-        ((c d : ℕ) → Kept m (remainsAfter m st budget) c d → crossing m a b c d ≡ false))
+        ((remainingEdges m budget a b ≡ true) × ((c d : ℕ) → Kept m (remainingEdges m budget) c d → crossing m a b c d ≡ false))
+    unfolding pairsOf
     byte-two p =
         let s = striking.certain-exactly (plate m) (lawful m) budget free (pairNumber a b) in
         let c = uncrossed-pairs m (remainingSet (plate m) budget) (below m budget) a b p in (
-          λ h. (let r = s .0 (sym byte-is ∙ h) in (at ∙ r .0, λ x y k. c .0 (r .1) x y (there k))),
-          λ h. byte-is ∙ s .1 (sym at ∙ h .0, c .1 (λ x y k. h .1 x y (back k))),
+          λ h. (let r = s .0 (sym byte-is ∙ h) in (r .0, c .0 (r .1))),
+          λ h. byte-is ∙ s .1 (h .0, c .1 (h .1)),
         )
 
     pub byte-one :
         IsPair m a b →
         (byteAfter m st budget a b ≡ 1) ↔
-        ((remainsAfter m st budget a b ≡ true) ×
-        ((c : ℕ) × (d : ℕ) × Kept m (remainsAfter m st budget) c d × (crossing m a b c d ≡ true)))
+        ((remainingEdges m budget a b ≡ true) ×
+        ((c : ℕ) × (d : ℕ) × Kept m (remainingEdges m budget) c d × (crossing m a b c d ≡ true)))
+    unfolding pairsOf
     byte-one p =
         let s = striking.possible-exactly (plate m) (lawful m) budget free (pairNumber a b) in
         let c = crossed-pairs m (remainingSet (plate m) budget) (below m budget) a b p in (
-          λ h. (let r = s .0 (sym byte-is ∙ h) in let x = c .0 (r .1) in (at ∙ r .0, (x .0, x .1, back (x .2), x .3))),
-          λ h. byte-is ∙ s .1 (sym at ∙ h .0, c .1 (h .1 .0, h .1 .1, there (h .1 .2), h .1 .3)),
+          λ h. (let r = s .0 (sym byte-is ∙ h) in (r .0, c .0 (r .1))),
+          λ h. byte-is ∙ s .1 (h .0, c .1 (h .1)),
         )
 
     pub byte-three : (byteAfter m st budget a b ≡ 0) ⊎ (byteAfter m st budget a b ≡ 1) ⊎ (byteAfter m st budget a b ≡ 2)
     byte-three =
         subst (λ (x : ℕ). (x ≡ 0) ⊎ (x ≡ 1) ⊎ (x ≡ 2)) (sym byte-is)
         (striking.three-bytes (plate m) (lawful m) budget free (pairNumber a b))
+
+-- ---- a hull edge remains
+pub hull-in : (m : List ℤ) (budget a b : ℕ) → IsPair m a b → hullEdge m a b ≡ true → remainingEdges m budget a b ≡ true
+unfolding pairsOf
+hull-in m budget a b p h =
+    striking.hull-remains (plate m) (lawful m) budget (pairNumber a b) (edge-at m a b p ∙ hull-empty m a b h)
+    (inner-at m a b p ∙ hull-not-inner m a b h)

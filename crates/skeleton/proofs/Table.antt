@@ -17,7 +17,7 @@ use Rattle.refusals.specs.declared.Verdict.{Verdict}
 use Rattle.refusals.specs.declared.Verdict.the-variants.{Accepted, Refused}
 use Rattle.plane.specs.Marks.{Plate, count}
 use Rattle.pairs.specs.Pairs.{pairCount}
-use Rattle.refusals.proofs.Laws.{refused-exactly, row-small, accepted-plate}
+use Rattle.refusals.proofs.Laws.{refused-exactly, row-small, row-positive, accepted-plate}
 use Rattle.refusals.specs.Check.{refused, verdict}
 use Rattle.plane.proofs.Laws.Numbers.{first-at, first-past, Seek, found, nowhere, seek}
 use Rattle.plane.proofs.Laws.Tells.{cond-yes, cond-no}
@@ -35,6 +35,9 @@ use Rattle.skeleton.proofs.Settled.{not-accepted, or-first, or-second, 
 -- ---- rows 1 to 4
 pub list-number : (m : List ℤ) (n d : ℕ) → At (verdict m) n d → n ≤ 4
 list-number m n d e = row-small m n d (refused-exactly m n d .0 e .0)
+
+list-positive : (m : List ℤ) (n d : ℕ) → At (verdict m) n d → 0 < n
+list-positive m n d e = row-positive m n d (refused-exactly m n d .0 e .0)
 
 -- ---- row 5
 module _ (m : List ℤ) (st : List ℕ) where
@@ -224,3 +227,15 @@ module _ (m : List ℤ) (st : List ℕ) (budget : ℕ) where
       at-row n d (list x e) = inl (inl e)
       at-row n d (buffer h) = inl (inr (buffer-at m st h))
       at-row n d (uncrossed i e) = inr (eight-at i e)
+
+-- ---- every row has a number above 0
+pub search-row-positive : (m : List ℤ) (st : List ℕ) (budget n d : ℕ) → SearchRow m st budget n d → 0 < n
+search-row-positive m st budget n d (list x e) = list-positive m n d e
+search-row-positive m st budget n d (buffer h) = omega arith
+search-row-positive m st budget n d (uncrossed i e) = omega arith
+
+pub request-row-positive : (m : List ℤ) (st : List ℕ) (a b n d : ℕ) → RequestRow m st a b n d → 0 < n
+request-row-positive m st a b n d (list x e) = list-positive m n d e
+request-row-positive m st a b n d (buffer h) = omega arith
+request-row-positive m st a b n d (byte k l h s) = omega arith
+request-row-positive m st a b n d (pair h) = omega arith

@@ -5,10 +5,10 @@
 --   outcomeOf m st budget         what the search answers
 --   statusAfter m st budget       the status buffer when the search returns
 --   byteAfter m st budget a b     the byte of the pair (a, b) in it
---   remainsAfter m st budget a b  that byte is not 0
---   Unrefused o                   the outcome o is no refusal
+--   remainingEdges m budget a b   the edge (a, b) remains where the search of m, step by step, stops
 --   shownReply, shownOutcome      the number and the detail that the controller shows; 0 and 0 where nothing is refused
-use mathlib.Core.Path.{_≡_}
+--   shownRequest m st a b         what it shows of the certificate request
+--   shownSearch m st budget       what it shows of the search
 use mathlib.Core.Bool.{Bool, cond}
 use mathlib.Core.List.{List, [], _∷_}
 use Prim.Native.Nat.{ℕ}
@@ -25,7 +25,7 @@ use Rattle.plane.specs.Edge.{emptyEdge}
 use Rattle.plane.specs.Hull.{hullEdge}
 use Rattle.refusals.specs.Check.{refused, verdict}
 use Rattle.striking.specs.Status.{remaining}
-use Rattle.striking.specs.Search.{Result, done, paused, answer8, search}
+use Rattle.striking.specs.Search.{Result, done, paused, answer8, remainingSet, search}
 use Rattle.striking.specs.Search as striking
 use Rattle.skeleton.specs.declared.request.Reply.{Reply}
 use Rattle.skeleton.specs.declared.request.Reply.the-variants.{Hull, NotEmpty, Certified, Uncertified}
@@ -114,11 +114,8 @@ statusAfter m st budget = bytesAfter (searchRefusal m st) st (search (plate m) b
 abbrev pub byteAfter : List ℤ → List ℕ → ℕ → ℕ → ℕ → ℕ
 byteAfter m st budget a b = getD (statusAfter m st budget) (pairNumber a b) 0
 
-abbrev pub remainsAfter : List ℤ → List ℕ → ℕ → ℕ → ℕ → Bool
-remainsAfter m st budget = pairsOf (remaining (statusAfter m st budget))
-
-abbrev pub Unrefused : Outcome → Type 0
-Unrefused o = (x : Refusal) → o ≡ Outcome.Refused x → ⊥
+abbrev pub remainingEdges : List ℤ → ℕ → ℕ → ℕ → Bool
+remainingEdges m budget = pairsOf (remainingSet (plate m) budget)
 
 -- ---- what the controller shows
 unfoldable pub shownReply : Reply → Refusal
@@ -132,3 +129,9 @@ unfoldable pub shownOutcome : Outcome → Refusal
 shownOutcome (Outcome.Refused x) = x
 shownOutcome (Done e) = record { number = 0; detail = 0 }
 shownOutcome (Paused e) = record { number = 0; detail = 0 }
+
+abbrev pub shownRequest : List ℤ → List ℕ → ℕ → ℕ → Refusal
+shownRequest m st a b = shownReply (answerOf m st a b .reply)
+
+abbrev pub shownSearch : List ℤ → List ℕ → ℕ → Refusal
+shownSearch m st budget = shownOutcome (outcomeOf m st budget)

@@ -1,6 +1,6 @@
 -- Any search that only strikes, and at done leaves each inner edge that remains with a certificate: what its result tells
 -- follows from what strikes in any order leave. Assumes nothing.
-use mathlib.Core.Path.{_≡_, refl, sym, ap, _∙_, subst, fun-ext}
+use mathlib.Core.Path.{_≡_, refl, sym, ap, _∙_, fun-ext}
 use mathlib.Core.Logic.{_⊎_, inl, inr, ⊎-elim}
 use mathlib.Core.Bool.{Bool, true, false}
 use mathlib.Core.List.{List}
@@ -87,9 +87,6 @@ module _ (y : System) (law : Lawful y) (h : Final) (g : Sound y h) where
   -- ---- demand 2
   pub end-largest : h .outcome ≡ done → Largest y (remaining (h .rest))
   end-largest q = rest-largest y law (g .strikes) (rest-supported y law (g .strikes) (g .vouched q))
-
-  pub report-largest : h .outcome ≡ done → Largest y (remaining (report y h .status))
-  report-largest q = subst (Largest y) (sym (report-remaining (done-no-answer8 q))) (end-largest q)
 
   -- ---- demand 3
   module _ {T : ℕ → Bool} (t : LocallyMinimal y T) (i : ℕ) where

@@ -1,6 +1,6 @@
 -- The theorems of striking, for every lawful system and every budget. Each proof cites the file of proofs/ that has the reason.
 -- Assumes nothing.
-use mathlib.Core.Path.{_≡_, ap}
+use mathlib.Core.Path.{_≡_, ap, _∙_}
 use mathlib.Core.Logic.{_↔_, _⊎_}
 use mathlib.Core.Bool.{Bool, true, false}
 use mathlib.Core.List.{List}
@@ -13,13 +13,15 @@ use Rattle.striking.specs.Search.{done, paused, answer8, isAnswer8, run,
 use Rattle.striking.specs.Strikes.{Struck}
 use Rattle.striking.specs.Demands.{Supported, Largest, LocallyMinimal, ample}
 use Rattle.striking.proofs.System.{due-in, due-inner, crossed-by-none, crossed-by-another, crossed-by-no-other}
+use Rattle.striking.proofs.Remaining.{all-edges}
+use Rattle.striking.proofs.Strikes.{hull-stays}
 use Rattle.striking.proofs.Runs.{search-strikes, search-ended, reason-of}
 use Rattle.striking.proofs.Examinations.{run-spent, spent-few, spent-pause, ample-few}
 use Rattle.striking.proofs.Budgets.{search-ahead, ahead-strikes, ahead-same}
 use Rattle.striking.proofs.Bytes.{byte-zero, byte-one, byte-two, byte-three}
 use Rattle.striking.proofs.AnyOrder.{rest-below, certain-in, impossible-out, largest-same}
 use Rattle.striking.proofs.Sound.{Sound, ended-done, complete-rest, complete-bytes, report-bytes, report-answer8}
-use Rattle.striking.proofs.Sound.{report-length, report-remaining, report-largest, report-certain, report-impossible}
+use Rattle.striking.proofs.Sound.{report-length, report-remaining, end-largest, report-certain, report-impossible}
 use Rattle.striking.proofs.Sound.{report-certain-later, report-impossible-later}
 
 -- The search only strikes, and at done each inner edge that remains has a certificate. All that its result tells rests on that.
@@ -115,11 +117,14 @@ module _ (y : System) (law : Lawful y) (budget : ℕ) where
 
   -- ---- demand 2
 
-  -- At done the bytes that are not 0 are the largest set that holds the hull edges and in which each inner edge has a
-  -- certificate.
-  pub done-largest : search y budget .outcome ≡ done → Largest y (remaining (search y budget .status))
+  -- At done what remains is the largest set that holds the hull edges and in which each inner edge has a certificate.
+  pub done-largest : search y budget .outcome ≡ done → Largest y (remainingSet y budget)
   unfolding search report
-  done-largest q = report-largest y law (run y budget) (run-sound y budget) q
+  done-largest q = end-largest y law (run y budget) (run-sound y budget) q
+
+  -- A hull edge remains under every budget.
+  pub hull-remains : (i : ℕ) → y .edge i ≡ true → y .inner i ≡ false → remainingSet y budget i ≡ true
+  hull-remains i h k = hull-stays (run-sound y budget .strikes) i (all-edges y law i ∙ h) k
 
   -- ---- demand 3
 

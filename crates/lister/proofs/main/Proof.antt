@@ -1,65 +1,67 @@
--- `main` lends what each callee asks for: the answer's text fits into the buffer. Assumes nothing.
-use mathlib.Core.Path.{refl, sym}
-use Prim.Native.Nat.{ℕ, _≤_}
-use native.Mathlib.Nat.{le-refl}
-use lib.ListN.{length, replicate, length-replicate}
-use lib.Seq.{length-take-le}
+-- `main` hands on the bytes that were read: they are no more than the buffer has. Assumes nothing.
+use mathlib.Core.Path.{sym, subst}
+use Prim.Native.Nat.{_≤_}
 use borrow.Author.Needs.{needs}
+use lib.ListN.{length}
+use lib.Seq.{length-take-le}
+use Rattle.lister.specs.declared.Input.{Input}
+use Rattle.lister.specs.Input.{bytesOf}
 use Rattle.lister.proofs.main.Statement.{statement}
 use Rattle.lister.proofs.main.Tie as tie
 
-room : 138240 ≤ length (replicate {A = ℕ} 138240 0)
-room = rw (length-replicate {A = ℕ} 138240 0) (le-refl 138240)
+slice-aggregate-read-input : tie.Need-slice-aggregate-read-input
+slice-aggregate-read-input c = search needs
 
-slice-aggregate-read-full : tie.Need-slice-aggregate-read-full
-slice-aggregate-read-full c = search needs
+read-input-requires : tie.Need-read-input-requires
+read-input-requires c κs = search needs
 
-read-full-requires : tie.Need-read-full-requires
-read-full-requires c κs = search needs
+enum-told : tie.Need-enum-told
+enum-told c = search needs
+
+slice-aggregate-write-all : tie.Need-slice-aggregate-write-all
+slice-aggregate-write-all c = search needs
+
+write-all-requires : tie.Need-write-all-requires
+write-all-requires c κs = search needs
+
+enum-known-x : tie.Need-enum-known-x
+enum-known-x c = search needs
 
 drain-requires : tie.Need-drain-requires
 drain-requires c κs = search needs
 
 array-share-prefix-text : tie.Need-array-share-prefix-text
-array-share-prefix-text c = search needs
+array-share-prefix-text c =
+    let r = c .before .before .before .before .before .read-input in
+    subst (λ (x : Input). bytesOf x ≤ length (r .last .0)) (c .before .before .x .given .1) (r .ensures)
 
-slice-aggregate-answer : tie.Need-slice-aggregate-answer
-slice-aggregate-answer c = search needs
+slice-aggregate-list : tie.Need-slice-aggregate-list
+slice-aggregate-list c =
+    let r = c .before .before .before .before .before .before .read-input in
+    sym (length-take-le _ _ (subst (λ (x : Input). bytesOf x ≤ length (r .last .0)) (c .before .before .before .x .given .1) (r .ensures)))
 
-slice-aggregate-answer-2 : tie.Need-slice-aggregate-answer-2
-slice-aggregate-answer-2 c = search needs
-
-slice-aggregate-answer-3 : tie.Need-slice-aggregate-answer-3
-slice-aggregate-answer-3 c = search needs
-
-answer-requires : tie.Need-answer-requires
-answer-requires c κs = (refl, room)
-
-array-share-prefix-out : tie.Need-array-share-prefix-out
-array-share-prefix-out c = search needs
-
-slice-aggregate-write-all : tie.Need-slice-aggregate-write-all
-slice-aggregate-write-all c = sym (length-take-le _ _ (c .before .before .before .answer .ensures .1 .1 .0))
-
-write-all-requires : tie.Need-write-all-requires
-write-all-requires c κs = search needs
+list-requires : tie.Need-list-requires
+list-requires c κs = search needs
 
 returns : tie.Need-returns
 returns c = search needs
+
+returns-2 : tie.Need-returns-2
+returns-2 c = search needs
 
 pub main-spec : {M : Type 1} → statement M
 main-spec =
     tie.close
     (tie.spec
-    slice-aggregate-read-full
-    read-full-requires
-    drain-requires
-    array-share-prefix-text
-    slice-aggregate-answer
-    slice-aggregate-answer-2
-    slice-aggregate-answer-3
-    answer-requires
-    array-share-prefix-out
+    slice-aggregate-read-input
+    read-input-requires
+    enum-told
     slice-aggregate-write-all
     write-all-requires
-    returns)
+    enum-known-x
+    drain-requires
+    array-share-prefix-text
+    slice-aggregate-list
+    list-requires
+    returns
+    returns-2)
