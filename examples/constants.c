@@ -54,7 +54,7 @@ static uint32_t request(const int32_t *marks, size_t n, size_t a, size_t b)
     return skeleton_certificate(marks, 2 * n, status, pairs_of(n), a, b, result, LONG_RESULT);
 }
 
-/* What a call that must return 0 says first; no constant has the value of a call that does not. */
+/* The first number of a result; if the call was refused, a number that no constant has. */
 static uint64_t said(uint32_t number)
 {
     return number == 0 ? result[0] : UINT64_MAX;

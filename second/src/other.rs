@@ -67,7 +67,7 @@ fn feed(input: &mut ChildStdin, pieces: &[&[u8]], id: u32) -> io::Result<()> {
 /// Waits at least a millisecond, and on a busy machine until the program has
 /// read what there is and waits for more, or has ended.
 fn pause(id: u32) {
-    const MOST_MILLISECONDS: usize = 100;
+    const MOST_MILLISECONDS: usize = 1_000;
     for _ in 0..MOST_MILLISECONDS {
         thread::sleep(Duration::from_millis(1));
         if !is_running(id) {
@@ -107,6 +107,13 @@ mod tests {
     fn pieces_come_one_after_the_other() {
         assert_eq!(Child::new("/bin/cat").answer_pieces(&[b"", b"ab", b"", b"c\n"]), Ok(b"abc\n".to_vec()));
         assert_eq!(Child::new("/bin/cat").answer_pieces(&[]), Ok(Vec::new()));
+    }
+
+    #[test]
+    fn each_piece_is_read_alone() {
+        // The shell reads the first piece and leaves the second to its command.
+        let pieces: [&[u8]; 2] = [b"dd bs=100 count=1 2>/dev/null\n", b"echo second\n"];
+        assert_eq!(Child::new("/bin/sh").answer_pieces(&pieces), Ok(b"echo second\n".to_vec()));
     }
 
     #[test]
