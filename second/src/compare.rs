@@ -11,17 +11,25 @@ use crate::search::search;
 use crate::shrink::shrink;
 use crate::text::{list, plate_text};
 
-/// A text on which the two sides differ, made small.
+/// A text on which the two sides differ.
 #[derive(Debug)]
 pub struct Difference {
     text: Vec<u8>,
+    /// The lengths of the pieces in which the text was given.
+    pieces: Vec<usize>,
     own: Vec<u8>,
     other: Result<Vec<u8>, String>,
 }
 
+pub type Compared = Result<(), Box<Difference>>;
+
 impl Display for Difference {
     fn fmt(&self, out: &mut Formatter) -> Written {
-        writeln!(out, "the text, {} bytes:", self.text.len())?;
+        write!(out, "the text, {} bytes", self.text.len())?;
+        if self.pieces.len() > 1 {
+            write!(out, " in pieces of {:?}", self.pieces)?;
+        }
+        writeln!(out, ":")?;
         write_lines(out, &self.text)?;
         writeln!(out, "own:")?;
         write_lines(out, &self.own)?;
@@ -41,14 +49,36 @@ fn write_lines(out: &mut Formatter, text: &[u8]) -> Written {
     Ok(())
 }
 
-/// Compares one text; a difference is made small first.
-pub fn compare_text(other: &dyn Other, text: &[u8]) -> Result<(), Box<Difference>> {
-    let differs = |text: &[u8]| other.answer(text).as_ref() != Ok(&list(text));
-    if !differs(text) {
+/// Compares one text that is given in pieces.
+pub fn compare_pieces(other: &dyn Other, pieces: &[&[u8]]) -> Compared {
+    let text = pieces.concat();
+    let (own, other) = (list(&text), other.answer_pieces(pieces));
+    if other.as_ref() == Ok(&own) {
         return Ok(());
     }
-    let text = shrink(text, differs);
-    Err(Box::new(Difference { own: list(&text), other: other.answer(&text), text }))
+    let pieces = pieces.iter().map(|piece| piece.len()).collect();
+    Err(Box::new(Difference { text, pieces, own, other }))
+}
+
+/// Compares one text that is given whole; a difference is made small first.
+pub fn compare_text(other: &dyn Other, text: &[u8]) -> Compared {
+    compare_pieces(other, &[text]).map_err(|difference| {
+        let small = shrink(text, |text| compare_pieces(other, &[text]).is_err());
+        compare_pieces(other, &[&small]).err().unwrap_or(difference)
+    })
+}
+
+/// What was compared.
+#[derive(Default)]
+pub struct Tally {
+    pub plates: usize,
+    pub texts: usize,
+}
+
+impl Display for Tally {
+    fn fmt(&self, out: &mut Formatter) -> Written {
+        write!(out, "{} plates, {} texts", self.plates, self.texts)
+    }
 }
 
 /// Compares random plates, then the known faults and damaged texts.
@@ -57,36 +87,41 @@ pub fn compare_random(
     seed: u64,
     plates: usize,
     texts: usize,
-) -> Result<(), Box<Difference>> {
+    tally: &mut Tally,
+) -> Compared {
     let mut random = Random::new(seed);
     for _ in 0..plates {
         compare_text(other, &random_plate(&mut random))?;
+        tally.plates += 1;
     }
-    let faults = known_faults();
-    for fault in faults.iter().take(texts) {
-        compare_text(other, fault)?;
-    }
-    for _ in faults.len()..texts {
-        let good = if random.one_in(20) { random_plate(&mut random) } else { small_plate(&mut random) };
-        compare_text(other, &damaged(&good, &mut random))?;
+    let mut faults = known_faults().into_iter();
+    for _ in 0..texts {
+        let text = faults.next().unwrap_or_else(|| damaged_plate(&mut random));
+        compare_text(other, &text)?;
+        tally.texts += 1;
     }
     Ok(())
 }
 
+fn damaged_plate(random: &mut Random) -> Vec<u8> {
+    let good = if random.one_in(20) { random_plate(random) } else { small_plate(random) };
+    damaged(&good, random)
+}
+
 /// Compares every set of up to five marks on a grid of three by three, in
 /// three orders, under "-" and every budget up to one above the end of the
-/// search. Gives the number of texts.
-pub fn compare_small(other: &dyn Other) -> Result<usize, Box<Difference>> {
-    let mut count = 0;
+/// search.
+pub fn compare_small(other: &dyn Other, tally: &mut Tally) -> Compared {
     for set in sets_on_small_grid(5) {
         for marks in orders(set) {
             for text in texts_of_every_budget(&marks) {
                 compare_text(other, &text)?;
-                count += 1;
+                tally.texts += 1;
             }
+            tally.plates += 1;
         }
     }
-    Ok(count)
+    Ok(())
 }
 
 /// The order given, its reverse, and the odd places before the even ones.
@@ -111,41 +146,56 @@ mod tests {
     struct Faulty(fn(&[u8]) -> Vec<u8>);
 
     impl Other for Faulty {
-        fn answer(&self, text: &[u8]) -> Result<Vec<u8>, String> {
-            Ok((self.0)(text))
+        fn answer_pieces(&self, pieces: &[&[u8]]) -> Result<Vec<u8>, String> {
+            Ok((self.0)(&pieces.concat()))
+        }
+    }
+
+    /// What is found in a lister, and what was compared until then.
+    fn compared(lister: fn(&[u8]) -> Vec<u8>, plates: usize, texts: usize) -> (Compared, String) {
+        let mut tally = Tally::default();
+        let found = compare_random(&Faulty(lister), 1, plates, texts, &mut tally);
+        (found, tally.to_string())
+    }
+
+    #[test]
+    fn equal_listers_show_no_difference_and_are_compared_as_often_as_told() {
+        for (plates, texts) in [(60, 400), (0, 3), (0, 0)] {
+            let (found, tally) = compared(list, plates, texts);
+            assert!(found.is_ok());
+            assert_eq!(tally, format!("{plates} plates, {texts} texts"));
         }
     }
 
     #[test]
-    fn equal_listers_show_no_difference() {
-        let same = Faulty(list);
-        assert!(compare_random(&same, 1, 60, 400).is_ok());
-    }
-
-    #[test]
     fn the_small_grid_compares_equal_with_itself() {
-        assert!(compare_small(&Faulty(list)).is_ok_and(|count| count > 3 * 382 * 3));
+        let mut tally = Tally::default();
+        assert!(compare_small(&Faulty(list), &mut tally).is_ok());
+        assert_eq!(tally.plates, 3 * 382);
+        assert!(tally.texts > 3 * 382 * 3);
     }
 
     #[test]
     fn a_lister_that_takes_carriage_returns_is_found_out() {
-        let lax = Faulty(|text| {
+        let lax = |text: &[u8]| {
             let kept: Vec<u8> = text.iter().copied().filter(|&byte| byte != b'\r').collect();
             list(&kept)
-        });
-        let difference = compare_random(&lax, 1, 0, 400).unwrap_err();
+        };
+        let (found, tally) = compared(lax, 0, 400);
+        let difference = found.unwrap_err();
         assert_eq!(difference.text, b"-\r\n");
         assert_eq!(difference.own, b"refused 9 1\n");
         assert_eq!(difference.other, Ok(b"done 0\n".to_vec()));
+        assert_ne!(tally, "0 plates, 400 texts");
     }
 
     #[test]
     fn a_lister_that_never_pauses_is_found_out_and_made_small() {
-        let endless = Faulty(|text| match text.iter().position(|&byte| byte == b'\n') {
+        let endless = |text: &[u8]| match text.iter().position(|&byte| byte == b'\n') {
             Some(place) if text[0].is_ascii_digit() => list(&[b"999999999", &text[place..]].concat()),
             _ => list(text),
-        });
-        let difference = compare_random(&endless, 1, 2_000, 0).unwrap_err();
+        };
+        let difference = compared(endless, 2_000, 0).0.unwrap_err();
         assert!(difference.text.len() <= 40, "{difference}");
     }
 }

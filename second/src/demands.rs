@@ -1,6 +1,8 @@
 //! Demands 2 and 3 of the product on small plates, checked against the brute
 //! force of rule 9 under every budget.
 
+use std::fmt::{Display, Formatter, Result as Written};
+
 use crate::compare::compare_text;
 use crate::other::Other;
 use crate::plane::{Mark, Plane};
@@ -11,39 +13,55 @@ use crate::search::{search, End, Outcome, CERTAIN, IMPOSSIBLE};
 use crate::text::plate_text;
 
 /// What was gone through.
-#[derive(Default, Debug)]
+#[derive(Default)]
 pub struct Tally {
-    pub plates: usize,
-    pub searches: usize,
-    pub triangulations: usize,
-    pub locally_minimal: usize,
+    plates: usize,
+    searches: usize,
+    triangulations: usize,
+    locally_minimal: usize,
+    texts: usize,
+}
+
+impl Display for Tally {
+    fn fmt(&self, out: &mut Formatter) -> Written {
+        write!(
+            out,
+            "{} plates, {} searches, {} triangulations, {} locally minimal, {} texts",
+            self.plates, self.searches, self.triangulations, self.locally_minimal, self.texts
+        )
+    }
 }
 
 /// Checks every set of up to five marks on a grid of three by three and then
 /// random plates; with another side its answers are compared too.
-pub fn check_demands(other: Option<&dyn Other>, seed: u64, plates: usize) -> Result<Tally, String> {
-    let mut tally = Tally::default();
+pub fn check_demands(
+    other: Option<&dyn Other>,
+    seed: u64,
+    plates: usize,
+    tally: &mut Tally,
+) -> Result<(), String> {
     for set in sets_on_small_grid(5) {
-        check_plate(&set, other, &mut tally)?;
+        check_plate(&set, other, tally)?;
     }
     let mut random = Random::new(seed);
     for _ in 0..plates {
         let (_, kind) = random.pick(&KINDS);
         let n = random.below(MOST_SMALL + 1);
-        check_plate(&marks(kind, n, &mut random), other, &mut tally)?;
+        check_plate(&marks(kind, n, &mut random), other, tally)?;
     }
-    Ok(tally)
+    Ok(())
 }
 
 fn check_plate(marks: &[Mark], other: Option<&dyn Other>, tally: &mut Tally) -> Result<(), String> {
     let plate = Plate::new(marks);
-    tally.plates += 1;
-    tally.triangulations += plate.rules.triangulations().len();
-    tally.locally_minimal += plate.locally_minimal.len();
     plate.check(other, tally).map_err(|reason| {
         let text = plate_text("-", marks);
         format!("{reason}\n{}", String::from_utf8_lossy(&text))
-    })
+    })?;
+    tally.plates += 1;
+    tally.triangulations += plate.rules.triangulations().len();
+    tally.locally_minimal += plate.locally_minimal.len();
+    Ok(())
 }
 
 /// A small plate with everything the demands speak of.
@@ -89,6 +107,7 @@ impl Plate {
             before = Some(outcome);
             if let Some(other) = other {
                 self.compare(other, budget)?;
+                tally.texts += 1;
             }
         }
         Ok(())
@@ -185,9 +204,11 @@ mod tests {
 
     #[test]
     fn the_demands_hold_on_the_small_grid_and_some_random_plates() {
-        let tally = check_demands(None, 1, 20).unwrap();
+        let mut tally = Tally::default();
+        check_demands(None, 1, 20, &mut tally).unwrap();
         assert_eq!(tally.plates, 382 + 20);
         assert!(tally.locally_minimal >= tally.plates);
+        assert_eq!(tally.texts, 0);
     }
 
     #[test]

@@ -31,28 +31,31 @@ pub struct Tally {
 
 impl Display for Tally {
     fn fmt(&self, out: &mut Formatter) -> Written {
-        let refused: Vec<String> =
-            self.returned.range(1..).map(|(number, times)| format!("{number}: {times}")).collect();
         write!(
             out,
-            "{} plates, {} searches, {} certificate requests, {} other calls; refused {}",
-            self.plates,
-            self.searches,
-            self.requests,
-            self.others,
-            refused.join(", ")
+            "{} plates, {} searches, {} certificate requests, {} other calls",
+            self.plates, self.searches, self.requests, self.others
         )
     }
 }
 
+impl Tally {
+    /// How often each number refused a call.
+    pub fn refused(&self) -> String {
+        let refused: Vec<String> =
+            self.returned.range(1..).map(|(number, times)| format!("{number}: {times}")).collect();
+        refused.join(", ")
+    }
+}
+
 /// Compares every pair number and budget, then random plates.
-pub fn compare_inside(other: &dyn Calls, seed: u64, plates: usize) -> Result<Tally, Box<Difference>> {
-    let mut inside = Inside { other, random: Random::new(seed), tally: Tally::default() };
+pub fn compare_inside(other: &dyn Calls, seed: u64, plates: usize, tally: &mut Tally) -> Compared {
+    let mut inside = Inside { other, random: Random::new(seed), tally };
     inside.every_number()?;
     for _ in 0..plates {
         inside.plate()?;
     }
-    Ok(inside.tally)
+    Ok(())
 }
 
 /// What an ample search of a plate gives; nothing if its list is refused.
@@ -65,7 +68,7 @@ struct Ample {
 struct Inside<'a> {
     other: &'a dyn Calls,
     random: Random,
-    tally: Tally,
+    tally: &'a mut Tally,
 }
 
 impl Inside<'_> {
@@ -94,7 +97,6 @@ impl Inside<'_> {
     fn plate(&mut self) -> Compared {
         let list = list_of(&quick_marks(&mut self.random));
         let ample = ample(&list);
-        self.tally.plates += 1;
         for _ in 0..2 {
             let status = self.any_status(&list);
             self.search(&list, &status, ample.examinations)?;
@@ -105,7 +107,9 @@ impl Inside<'_> {
             self.request(&list, &status, pair)?;
         }
         self.damaged_calls(list, &ample)?;
-        self.other_calls()
+        self.other_calls()?;
+        self.tally.plates += 1;
+        Ok(())
     }
 
     /// A damaged search and a damaged request.
@@ -300,7 +304,9 @@ mod tests {
 
     #[test]
     fn equal_sides_show_no_difference_and_every_refusal_is_met() {
-        let tally = compare_inside(&Own, 1, 300).map_err(|difference| difference.to_string()).unwrap();
+        let mut tally = Tally::default();
+        let compared = compare_inside(&Own, 1, 300, &mut tally);
+        compared.map_err(|difference| difference.to_string()).unwrap();
         let met: Vec<u32> = tally.returned.keys().copied().collect();
         assert_eq!(met, [0, 1, 2, 3, 4, 5, 6, 7, 100, 101]);
         assert_eq!(tally.plates, 300);
@@ -360,7 +366,8 @@ mod tests {
 
     /// What is told of a faulty side.
     fn told(faulty: Faulty) -> String {
-        compare_inside(&faulty, 1, 2_000).err().expect("the fault is found").to_string()
+        let compared = compare_inside(&faulty, 1, 2_000, &mut Tally::default());
+        compared.expect_err("the fault is found").to_string()
     }
 
     #[test]

@@ -20,6 +20,7 @@ pub mod lent;
 #[cfg(feature = "driver")]
 pub mod library;
 pub mod other;
+pub mod pieces;
 pub mod plane;
 pub mod plates;
 pub mod random;

@@ -4,11 +4,11 @@ use std::path::Path;
 use std::process::ExitCode;
 
 use second::bench::{plates, print, Plate};
-use second::inside::compare_inside;
+use second::inside::{compare_inside, Tally};
 use second::library::Library;
 use second::search::End;
 
-use super::{failed, options, printed_seed, Ended, Misused};
+use super::{ended, failed, options, printed_seed, Ended, Misused};
 
 pub fn run(arguments: &[&str]) -> Ended {
     match arguments {
@@ -23,18 +23,11 @@ pub fn run(arguments: &[&str]) -> Ended {
 
 fn run_inside(arguments: &[&str]) -> Ended {
     let options = options(arguments, &["--seed", "--plates"])?;
-    let seed = printed_seed(options.seed);
-    Ok(match compare_inside(&Library, seed, options.plates.unwrap_or(20_000)) {
-        Ok(tally) => {
-            println!("compared {tally}; 0 differences");
-            ExitCode::SUCCESS
-        }
-        Err(difference) => {
-            println!("a difference, seed {seed}");
-            print!("{difference}");
-            ExitCode::FAILURE
-        }
-    })
+    let plates = options.plates.unwrap_or(20_000);
+    let mut tally = Tally::default();
+    let found = compare_inside(&Library, printed_seed(options.seed), plates, &mut tally);
+    println!("refused {}", tally.refused());
+    Ok(ended("inside", &tally, found))
 }
 
 fn run_bench(folder: &str) -> ExitCode {

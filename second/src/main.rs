@@ -3,14 +3,16 @@
 #[cfg(feature = "driver")]
 mod linked;
 
+use std::fmt::Display;
 use std::io::{self, Read, Write};
 use std::process::ExitCode;
 use std::time::{SystemTime, UNIX_EPOCH};
 
 use second::averages::averages;
-use second::compare::{compare_random, compare_small};
-use second::demands::check_demands;
+use second::compare::{self, compare_random, compare_small};
+use second::demands::{self, check_demands};
 use second::other::{Child, Other};
+use second::pieces::{self, compare_in_pieces};
 use second::plates::{kind_named, marks};
 use second::random::Random;
 use second::text::{list, plate_text, read};
@@ -25,6 +27,8 @@ usage:
       compares on every set of up to 5 marks on a grid of 3 by 3
   second demands [--lister PATH] [--seed S] [--plates N]
       checks demands 2 and 3 on small plates against brute force
+  second pieces --lister PATH [--seed S] [--texts N]
+      compares while PATH is fed its text in pieces, with a pause between them
   second averages [--seed S]
       averages of certain, possible and impossible pairs of uniform plates
   second plate KIND N SEED [BUDGET]
@@ -59,6 +63,7 @@ fn run(arguments: &[&str]) -> Ended {
         ["compare", options @ ..] => run_compare(options),
         ["small", options @ ..] => run_small(options),
         ["demands", options @ ..] => run_demands(options),
+        ["pieces", options @ ..] => run_pieces(options),
         ["averages", options @ ..] => run_averages(options),
         ["plate", kind, n, seed] => run_plate(kind, n, seed, "-"),
         ["plate", kind, n, seed, budget] => run_plate(kind, n, seed, budget),
@@ -120,57 +125,55 @@ fn failed(reason: &str) -> ExitCode {
     ExitCode::FAILURE
 }
 
+/// Ends a comparing command with what was found and, as the last line, how much
+/// was compared. A command stops at the first difference.
+fn ended(command: &str, tally: &impl Display, found: Result<(), impl Display>) -> ExitCode {
+    match found {
+        Ok(()) => {
+            println!("{command}: {tally}, 0 differences");
+            ExitCode::SUCCESS
+        }
+        Err(difference) => {
+            print!("{difference}");
+            println!("{command}: {tally}, 1 difference");
+            ExitCode::FAILURE
+        }
+    }
+}
+
 fn run_compare(arguments: &[&str]) -> Ended {
     let options = options(arguments, &["--lister", "--seed", "--plates", "--texts"])?;
     let lister = options.lister.ok_or(Misused)?;
     let plates = options.plates.unwrap_or(2_000);
     let texts = options.texts.unwrap_or(2_000);
-    let seed = printed_seed(options.seed);
-    Ok(match compare_random(&lister, seed, plates, texts) {
-        Ok(()) => {
-            println!("compared {plates} plates and {texts} texts, 0 differences");
-            ExitCode::SUCCESS
-        }
-        Err(difference) => {
-            println!("a difference, seed {seed}");
-            print!("{difference}");
-            ExitCode::FAILURE
-        }
-    })
+    let mut tally = compare::Tally::default();
+    let found = compare_random(&lister, printed_seed(options.seed), plates, texts, &mut tally);
+    Ok(ended("compare", &tally, found))
 }
 
 fn run_small(arguments: &[&str]) -> Ended {
     let lister = options(arguments, &["--lister"])?.lister.ok_or(Misused)?;
-    Ok(match compare_small(&lister) {
-        Ok(texts) => {
-            println!("compared {texts} texts of up to 5 marks on 3 by 3, 0 differences");
-            ExitCode::SUCCESS
-        }
-        Err(difference) => {
-            println!("a difference");
-            print!("{difference}");
-            ExitCode::FAILURE
-        }
-    })
+    let mut tally = compare::Tally::default();
+    let found = compare_small(&lister, &mut tally);
+    Ok(ended("small", &tally, found))
 }
 
 fn run_demands(arguments: &[&str]) -> Ended {
     let options = options(arguments, &["--lister", "--seed", "--plates"])?;
-    let seed = printed_seed(options.seed);
     let lister = options.lister.as_ref().map(|child| child as &dyn Other);
-    Ok(match check_demands(lister, seed, options.plates.unwrap_or(500)) {
-        Ok(tally) => {
-            println!(
-                "demands 2 and 3 hold: {} plates, {} searches, {} triangulations, {} locally minimal",
-                tally.plates, tally.searches, tally.triangulations, tally.locally_minimal
-            );
-            ExitCode::SUCCESS
-        }
-        Err(reason) => {
-            println!("a demand fails, seed {seed}\n{reason}");
-            ExitCode::FAILURE
-        }
-    })
+    let plates = options.plates.unwrap_or(500);
+    let mut tally = demands::Tally::default();
+    let found = check_demands(lister, printed_seed(options.seed), plates, &mut tally);
+    Ok(ended("demands", &tally, found))
+}
+
+fn run_pieces(arguments: &[&str]) -> Ended {
+    let options = options(arguments, &["--lister", "--seed", "--texts"])?;
+    let lister = options.lister.ok_or(Misused)?;
+    let texts = options.texts.unwrap_or(300);
+    let mut tally = pieces::Tally::default();
+    let found = compare_in_pieces(&lister, printed_seed(options.seed), texts, &mut tally);
+    Ok(ended("pieces", &tally, found))
 }
 
 fn run_averages(arguments: &[&str]) -> Ended {
