@@ -17,7 +17,7 @@ use plane::weight::weight;
 use sets::{Set, first_of, has_mark, meet, rest_of};
 
 // The two apexes, and the pair numbers of the four sides in the order pr, qr, ps, qs.
-#[derive(Drop)]
+#[derive(Clone, Copy)]
 pub struct Certificate {
     pub r: usize,
     pub s: usize,
@@ -25,7 +25,7 @@ pub struct Certificate {
 }
 
 // The apexes r and s of a certificate, or nothing.
-#[derive(Drop)]
+#[derive(Clone, Copy)]
 pub enum Pick {
     Nothing,
     Apexes(usize, usize),

@@ -3,6 +3,8 @@
 // Each function but `skeleton_version` answers with a status number: 0, or the number of a refusal. What else it has to tell it writes at the
 // start of a lent result buffer; what stands behind stays. A result buffer that is too short is refused with a number of its own, whatever else
 // is wrong, and then nothing is written anywhere. specs/Driver.antt says every number.
+#![tactic(auto)]
+
 ghost use Rattle.std.specs.Prelude.{◌≡◌, ◌++◌, ◌≤◌, length, drop};
 ghost use Rattle.skeleton.specs.Answers.{shown_reply, shown_outcome};
 ghost use Rattle.driver.specs.Driver.{version, told, returned, written};

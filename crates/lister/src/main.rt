@@ -1,13 +1,15 @@
 // The listing program: the budget and the marks on standard input, the listing or the line of a refusal on standard output. All but the
 // input and output is `listing::list::answer`. Of an input that cannot be read to its end there is no listing: standard output stays empty, and
 // standard error says why.
+#![tactic(auto)]
+
 ghost use Rattle.std.specs.Prelude.{◌≤◌, length};
 ghost use Rattle.lister.specs.Input.{bytes_of};
 
 use libc::{STDERR_FILENO, STDIN_FILENO, STDOUT_FILENO};
 use listing::list::answer;
 
-#[derive(Drop)]
+#[derive(Clone, Copy)]
 enum Input {
     // So many bytes stand at the buffer's start: the whole input, or as much as the buffer takes.
     Read(usize),

@@ -2,4 +2,6 @@
 //
 // `list::answer` reads the text (crate reading), searches the plate (crate skeleton) and writes what the search answers (crate writing): the
 // bytes of the answer are those of `answer_text`, of every text (specs/Program.antt).
+#![tactic(auto)]
+
 pub mod list;

@@ -9,7 +9,7 @@ use super::edge::is_between;
 use super::marks::{count, mark};
 use super::side::{is_left, is_on, is_right, side};
 
-#[derive(Drop)]
+#[derive(Clone, Copy)]
 pub enum Kind {
     // A third mark lies on the segment.
     Blocked,

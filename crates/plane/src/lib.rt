@@ -3,6 +3,8 @@
 // A plate is a lent list of numbers x0, y0, x1, y1, ..; mark i is the point (m[2i], m[2i + 1]). What a list must be is `Plate` of
 // specs/Marks.antt, which crate refusals checks; the functions here may take it for granted. Each function computes one definition of
 // specs/, and its contract is the equation with that definition.
+#![tactic(auto)]
+
 pub mod cross;
 pub mod edge;
 pub mod hull;

@@ -1,4 +1,6 @@
 // The worked plates of 01 that are proved: one table, and a program that runs the search over it.
+#![tactic(auto)]
+
 ghost use Rattle.std.specs.Prelude.{◌≡◌, ◌<◌, ◌≤◌, length, get_or};
 ghost use Rattle.plates.specs.Plates.{table};
 

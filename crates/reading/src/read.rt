@@ -5,7 +5,7 @@ ghost use Rattle.reading.specs.Text.{Part, place_of, is_only, starts_with, is_di
 ghost use Rattle.reading.specs.Read.{is_budget, budget_of, is_mark, is_good_at, first_bad, Readable, mark_count, numbers_of, reading_of, numbers_after};
 
 // The answer to a text.
-#[derive(Drop)]
+#[derive(Clone, Copy)]
 pub enum Reading {
     // Refusal 9, with its detail.
     Refused(usize),

@@ -1,4 +1,6 @@
 // The check of a list: the first four rows of 01's table. Every list gets an answer.
+#![tactic(auto)]
+
 ghost use Rattle.std.specs.Prelude.{◌≡◌, ◌<◌};
 ghost use Rattle.plane.specs.Marks.{IsMark};
 ghost use Rattle.refusals.specs.Check.{in_range, first_out, has_twin, first_twin, verdict};
@@ -6,13 +8,13 @@ ghost use Rattle.refusals.specs.Check.{in_range, first_out, has_twin, first_twin
 use plane::marks::{count, is_same, mark};
 
 // A number of 01's table, and its detail.
-#[derive(Drop)]
+#[derive(Clone, Copy)]
 pub struct Refusal {
     pub number: u8,
     pub detail: usize,
 }
 
-#[derive(Drop)]
+#[derive(Clone, Copy)]
 pub enum Verdict {
     Accepted,
     Refused(Refusal),

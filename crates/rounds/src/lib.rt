@@ -2,6 +2,8 @@
 //
 // What remains stands in the status bytes, and beside them in the rows of neighbours; `Ready` of specs/Run.antt says that they agree. The
 // contracts are equations with the search of crate striking, of the plate as certificates/specs/Plate.antt makes it a system of edges.
+#![tactic(auto)]
+
 ghost use Rattle.std.specs.Prelude.{◌≡◌, true, false, suc, ◌+◌, ◌^◌, ◌<◌, ◌≤◌, length, set, replicate};
 ghost use Rattle.plane.specs.Marks.{Plate, IsMark, count};
 ghost use Rattle.plane.specs.Edge.{empty_edge};
@@ -58,7 +60,7 @@ pub fn mark_edges(m: &[i32], st: &mut [u8], t: &mut [u64])
 // ---- a round
 
 // How far a search is.
-#[derive(Drop)]
+#[derive(Clone, Copy)]
 pub enum Halt {
     Going,
     Finished,
@@ -67,7 +69,7 @@ pub enum Halt {
 }
 
 // How far it is, whether this round has struck something, and the examinations made. What remains is in the status bytes.
-#[derive(Drop)]
+#[derive(Clone, Copy)]
 pub struct Run {
     pub halt: Halt,
     pub struck: bool,

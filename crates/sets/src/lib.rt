@@ -1,9 +1,11 @@
 // Sets of marks: numbers below 128, in two words of 64 digits, for the numbers 0 to 63 and 64 to 127, the lowest digit first.
+#![tactic(auto)]
+
 ghost use Rattle.std.specs.Prelude.{◌≡◌, ◌<◌};
 ghost use Rattle.plane.specs.Numbers.{first_to};
 ghost use Rattle.sets.specs.Sets.{set_of, has, none, both, either, including, without};
 
-#[derive(Drop)]
+#[derive(Clone, Copy)]
 pub struct Set {
     pub low: u64,
     pub high: u64,

@@ -1,5 +1,7 @@
 // One pass of the marks against a pair (a, b): one side test a mark gives a digit of the left set of a to b, a digit of that of b to a,
 // and, where the mark is on the line, whether it lies on the segment.
+#![tactic(auto)]
+
 ghost use Rattle.std.specs.Prelude.{◌≡◌, cond, false, ◌+◌, ◌*◌, ◌-◌, ◌^◌, ◌<◌, ◌≤◌, min};
 ghost use Rattle.plane.specs.Marks.{Plate, IsMark, count, mark};
 ghost use Rattle.plane.specs.Side.{side};
@@ -13,14 +15,14 @@ use plane::marks::{count, mark};
 use plane::side::{is_left, is_on, is_right, side};
 use sets::{Set, is_none};
 
-#[derive(Drop)]
+#[derive(Clone, Copy)]
 pub struct Pass {
     pub left: u64,
     pub right: u64,
     pub clear: bool,
 }
 
-#[derive(Drop)]
+#[derive(Clone, Copy)]
 pub struct Sides {
     pub left: Set,
     pub right: Set,

@@ -17,7 +17,7 @@ use plane::marks::count;
 use refusals::{Refusal, Verdict};
 use rounds::mark_edges;
 
-#[derive(Drop)]
+#[derive(Clone, Copy)]
 pub enum Reply {
     // Rows 1 to 7 of the table.
     Refused(Refusal),
@@ -32,7 +32,7 @@ pub enum Reply {
 }
 
 // The certificate is all zeros unless the reply is `Certified`.
-#[derive(Drop)]
+#[derive(Clone, Copy)]
 pub struct Answer {
     pub reply: Reply,
     pub certificate: Certificate,

@@ -13,7 +13,7 @@ use plane::marks::count;
 use refusals::{Refusal, Verdict, check_list};
 use rounds::{Halt, Run, blank, mark_edges, rounds, show};
 
-#[derive(Drop)]
+#[derive(Clone, Copy)]
 pub enum Outcome {
     // Rows 1 to 5 and 8 of the table.
     Refused(Refusal),

@@ -2,4 +2,6 @@
 //
 // `write` makes what the program answers, a listing or the line of a refusal: it fills a lent buffer from its start with the text that
 // specs/Listing.antt defines, and leaves the rest of the buffer as it was.
+#![tactic(auto)]
+
 pub mod write;

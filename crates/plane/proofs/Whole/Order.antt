@@ -86,7 +86,7 @@ add_nat : (a b : ℕ) → 0 < a → 0 < a + b
 add_nat a b h = omega arith
 
 mul_nat : (a b : ℕ) → 0 < a → 0 < b → 0 < a * b
-mul_nat a b h k = NatL.mul_pos h k
+mul_nat a b h k = NatL.mul-pos h k
 
 pub add_pos_nn : {a b : ℤ} → Pos a → NonNeg b → Pos (a +ℤ b)
 add_pos_nn {a = pos a} {b = pos b} h k = lt_z_yes (lt→ltb 0 (a + b) (add_nat a b (ltb→lt 0 a h.lt)))

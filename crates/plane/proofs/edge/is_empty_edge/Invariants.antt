@@ -1,0 +1,18 @@
+-- `edge::is_empty_edge` meets its contract. The invariant: the marks passed leave the edge clear. Assumes nothing.
+use mathlib.Core.Path.{◌≡◌, sym, ◌∙◌}
+use mathlib.Core.Bool.{true}
+use Prim.Native.Nat.{◌-◌, ◌≤◌}
+use native.Mathlib.Omega.{arith}
+use borrow.Author.Tests.{not-true, not-false}
+use Rattle.plane.specs.Numbers.{all_to}
+use Rattle.plane.specs.Marks.{count}
+use Rattle.plane.specs.Edge.{clear, empty_edge}
+use Rattle.plane.proofs.Laws.Numbers.{all_none, all_more, all_no, all_end}
+use Rattle.std.proofs.Common.{rules}
+use Rattle.plane.proofs.edge.is_empty_edge.Given as goal
+
+abbrev pub invariant-loop-k : goal.invariant-loop-k
+invariant-loop-k l = (l.k ≤ l.n) × (l.n ≡ count l.m) × (all_to l.k (clear l.m l.a l.b) ≡ true)
+
+abbrev pub decreases-loop-k : goal.decreases-loop-k
+decreases-loop-k l = l.n - l.k

@@ -1,0 +1,16 @@
+-- `marks::is_same` meets its contract: numbers with the same bits are the same. Assumes nothing.
+use mathlib.Core.Path.{◌∙◌, sym}
+use borrow.Author.Tests.{eq-eqb, ne_eqb}
+use Rattle.plane.specs.Marks.{same_point}
+use Rattle.plane.proofs.Laws.Bits.{bits_same}
+use Rattle.plane.proofs.Laws.Tells.{cond_yes, cond_no}
+use Rattle.std.proofs.Common.{rules}
+use Rattle.plane.proofs.marks.is_same.Goals as goal
+
+pub returns-then-p-q : goal.returns-then-p-q
+unfolding same_point
+returns-then-p-q c = let a = c.args in record { same = sym (cond_no _ _ (sym (bits_same a.p.x a.q.x (search rules) (search rules)) ∙ ne_eqb _ _ c.if-p-q.true)) }
+
+pub returns : goal.returns
+unfolding same_point
+returns c = let a = c.args in record { same = bits_same a.p.y a.q.y (search rules) (search rules) ∙ sym (cond_yes _ _ (sym (bits_same a.p.x a.q.x (search rules) (search rules)) ∙ eq-eqb _ _ c.if-p-q.false)) }
