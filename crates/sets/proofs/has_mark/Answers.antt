@@ -1,0 +1,17 @@
+-- `sets::has_mark` meets its contract. A shift brings the digit of i to the lowest place. Assumes nothing.
+use mathlib.Core.Path.{◌≡◌, sym, ap, ◌∙◌}
+use Prim.Native.Nat.{ℕ, ◌-◌, ◌/◌, ◌%◌, ◌^◌}
+use native.Mathlib.Omega.{arith}
+use lib.Dec.{eqb}
+use Rattle.sets.specs.Sets.{in_word}
+use Rattle.sets.proofs.Laws.Sets.{has_low, has_high}
+use Rattle.std.proofs.Common.{rules}
+use Rattle.sets.proofs.has_mark.Goals as goal
+
+pub returns-then-i-lt64 : goal.returns-then-i-lt64
+unfolding in_word
+returns-then-i-lt64 c = let a = c.args in let e : a.i - 0 ≡ a.i = omega arith in record { member = sym (has_low a.s a.i c.if-i-lt64.true ∙ ap (λ (x : ℕ). eqb (a.s.low / 2 ^ x % 2) 1) e) }
+
+pub returns : goal.returns
+unfolding in_word
+returns c = record { member = sym (has_high _ c.args.i c.if-i-lt64.false) }
