@@ -4,7 +4,7 @@
 // puts one text at a place, `Puts` of specs/Listing.antt, and answers the place after it.
 ghost use Rattle.std.specs.Prelude.{◌≡◌, [], ◌∷◌, ◌++◌, ◌<◌, ◌≤◌, length, drop};
 ghost use Rattle.pairs.specs.Pairs.{pair_count};
-ghost use Rattle.writing.specs.Digits.{digit as digitByte, digits};
+ghost use Rattle.writing.specs.Digits.{digit as digit_byte, digits};
 ghost use Rattle.writing.specs.Listing.{line, outcome_text, refused_text, pair_text, pairs_text, listing_text, Room, Puts};
 
 use pairs::{Pair, next_pair, pair_count};
@@ -42,7 +42,7 @@ fn put_bytes(out: &mut [u8], at: usize, word: &[u8]) -> usize
 // The byte of a digit.
 fn digit(d: u64) -> u8
     requires { d < 10 }
-    ensures spelt { result ≡ digitByte d }
+    ensures spelt { result ≡ digit_byte d }
 {
     48 + d as u8
 }

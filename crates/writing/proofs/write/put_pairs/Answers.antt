@@ -22,14 +22,15 @@ pub bounds-st-i : goal.bounds-st-i
 bounds-st-i c = omega arith
 
 pub put_pair-next-requires : goal.put_pair-next-requires
-put_pair-next-requires c = let start = c in
+put_pair-next-requires c =
     let l = c.loop-i in
-    room_pair start.args.st.now l.i (pair_count start.args.n) (omega (arith, c.pair_count-count.ensures.counted)) start.requires.room l.invariant.2 l.p l.invariant.1
+    room_pair c.args.st.now l.i (pair_count c.args.n) (omega (arith, c.pair_count-count.ensures.counted)) c.requires.room l.invariant.2 l.p l.invariant.1
 
 pub next_pair-p-requires : goal.next_pair-p-requires
-next_pair-p-requires c = let start = c in
+next_pair-p-requires c =
     let l = c.loop-i in
-    pair_ends start.args.n l.i l.p l.invariant.1 start.requires.n_bound (omega (arith, c.pair_count-count.ensures.counted))
+    let h = pair_ends c.args.n l.i l.p l.invariant.1 c.requires.n_bound (omega (arith, c.pair_count-count.ensures.counted)) in
+    record { a_lt_b = h.0; b_bound = h.1 }
 
 pub overflow_add-i : goal.overflow_add-i
 overflow_add-i c = omega arith
@@ -38,13 +39,13 @@ pub loop-i-smaller : goal.loop-i-smaller
 loop-i-smaller c = omega arith
 
 pub loop-i-preserved : goal.loop-i-preserved
-loop-i-preserved c = let start = c in
+loop-i-preserved c =
     let l = c.loop-i in (
       omega arith,
       c.next_pair-p.ensures.next ∙ next_is l.i l.p l.invariant.1,
-      puts_pair start.args.st.now l.i (pair_count start.args.n) (omega (arith, c.pair_count-count.ensures.counted)) start.requires.room l.invariant.2 l.p l.invariant.1 c.put_pair-next.ensures.put,
-      c.put_pair-next.auto.0 ∙ l.invariant.3,
+      puts_pair c.args.st.now l.i (pair_count c.args.n) (omega (arith, c.pair_count-count.ensures.counted)) c.requires.room l.invariant.2 l.p l.invariant.1 c.put_pair-next.ensures.put,
+      c.put_pair-next.auto.out ∙ l.invariant.3,
     )
 
 pub returns : goal.returns
-returns c = let start = c in let l = c.loop-i in let e : l.i ≡ pair_count start.args.n = omega (arith, c.pair_count-count.ensures.counted) in record { put = puts_is (ap (pair_texts start.args.st.now) e) l.invariant.2 }
+returns c = let l = c.loop-i in let e : l.i ≡ pair_count c.args.n = omega (arith, c.pair_count-count.ensures.counted) in record { put = puts_is (ap (pair_texts c.args.st.now) e) l.invariant.2 }

@@ -1,0 +1,5 @@
+-- `write::put_digits` calls itself at the number's tenth. Assumes nothing.
+use Rattle.writing.proofs.write.+put_digits.Given as goal
+
+abbrev pub decreases-put_digits : goal.decreases-put_digits
+decreases-put_digits l = l.n
