@@ -5,7 +5,7 @@ use Rattle.std.proofs.Common.{rules}
 use Rattle.certificates.proofs.certificate.candidates.Goals as goal
 
 pub returns : goal.returns
-returns c = let u = c in let a = u in let y = u in record {
-  found = candidate-set _ _ a.args.p a.args.q a.args.a a.args.b a.requires.rows a.requires.p_bound a.requires.q_bound
-      y.row-x.ensures.row y.row-y.ensures.row u.meet.ensures.both c.left_set.ensures.left c.meet-2.ensures.both;
+returns c = record {
+  found = candidate-set _ _ c.args.p c.args.q c.args.a c.args.b c.requires.rows c.requires.p_bound c.requires.q_bound
+      c.row-x.ensures.row c.row-y.ensures.row c.meet.ensures.both c.left_set.ensures.left c.meet-2.ensures.both;
 }

@@ -18,7 +18,7 @@ use Rattle.certificates.proofs.Candidates.{candidate-mark_lem, right_mark}
 use Rattle.certificates.proofs.Apexes.{Given, p_small, q_small, left_miss, right_miss, match_no, match_yes}
 use Rattle.std.proofs.Common.{rules}
 use Rattle.certificates.proofs.certificate.first_certificate.Goals as goal
-use Rattle.certificates.proofs.certificate.first_certificate.Goals.{In-loop-s, In-search, Start}
+use Rattle.certificates.proofs.certificate.first_certificate.Goals.{else-search-test, then-search-test+then-loop-s-test+then-is_match, Left-search, In-loop-s, In-search, Start}
 
 -- ---- what is known at the places
 given : (a : Start) → Given a.args.m.now a.args.p a.args.q
@@ -43,119 +43,117 @@ right-here c = open_at c.loop-s.invariant.2 c.loop-s.invariant.1 c.loop-s-test.t
 
 -- where the ways out of the loops meet
 stopped :
-    (c : tie.Left-search invariant-loop decreases-loop invariant-search decreases-search) →
+    (c : Left-search) →
     let a = c.args in
-    Stopped a.m.now (edges_of a.m.now (remaining a.st.now)) a.p a.q
-    c.search-test.found c.search-test.found-r c.search-test.found-s
+    Given a.m.now a.p a.q →
+    Stopped a.m.now (edges_of a.m.now (remaining a.st.now)) a.p a.q c.search-test.found c.search-test.found_r c.search-test.found_s
 unfolding first_certificate pick_right
-stopped c =
-    let g = given c in
+stopped c g =
     let i = c.search.invariant in
-    ⊎_elim
-    (λ w. nowhere (w.1 ∙ i.0) (open_end i.2 i.1 g.plate.few w.0.left))
-    (λ w.
-    let e = open_at i.2 i.1 w.0.taken in
-    let j = w.4.inv in
-    let h = open_at j.2 j.1 w.5.taken in
-    let pick = match_yes _ _ _ _ g _ e _ h (sym w.6.ensures ∙ w.7.taken) in
-    rw (w.9, w.10)
-    (somewhere w.8
-    (open_hit i.2 i.1 (candidate-mark_lem _ _ _ _ _ _ _ e) (open_hit j.2 j.1 (right_mark _ _ _ _ _ _ h) pick))))
-    c.search-test.branch
+    elim c.search-test.branch [
+      | else-search-test w ↦ nowhere (w.found-is ∙ i.0) (open_end i.2 i.1 g.plate.few w.search-test.false)
+      | then-search-test+then-loop-s-test+then-is_match w ↦
+          let e = open_at i.2 i.1 w.search-test.true in
+          let j = w.loop-s.invariant in
+          let h = open_at j.2 j.1 w.loop-s-test.true in
+          let pick = match_yes _ _ _ _ g _ e _ h (sym w.is_match.ensures.fits ∙ w.if-is_match.true) in
+          rw (w.found_r-is, w.found_s-is)
+          (somewhere w.found-is
+          (open_hit i.2 i.1 (candidate-mark_lem _ _ _ _ _ _ _ e) (open_hit j.2 j.1 (right_mark _ _ _ _ _ _ h) pick)))
+    ]
 
 pub candidates-rights-requires-clause-table : goal.candidates-rights-requires-clause-table
-candidates-rights-requires-clause-table c = let a = c in let g = given (goal.at.candidates-rights-requires-clause-table c).Start in a.requires.table
+candidates-rights-requires-clause-table c = c.requires.table
 
 pub candidates-rights-requires-clause-rows : goal.candidates-rights-requires-clause-rows
-candidates-rights-requires-clause-rows c = let a = c in let g = given (goal.at.candidates-rights-requires-clause-rows c).Start in a.requires.rows
+candidates-rights-requires-clause-rows c = c.requires.rows
 
 pub candidates-rights-requires-clause-p_bound : goal.candidates-rights-requires-clause-p_bound
-candidates-rights-requires-clause-p_bound c = let a = c in let g = given (goal.at.candidates-rights-requires-clause-p_bound c).Start in p_small g
+candidates-rights-requires-clause-p_bound c = let g = given (goal.at.candidates-rights-requires-clause-p_bound c).Start in p_small g
 
 pub candidates-rights-requires-clause-q_bound : goal.candidates-rights-requires-clause-q_bound
-candidates-rights-requires-clause-q_bound c = let a = c in let g = given (goal.at.candidates-rights-requires-clause-q_bound c).Start in q_small g
+candidates-rights-requires-clause-q_bound c = let g = given (goal.at.candidates-rights-requires-clause-q_bound c).Start in q_small g
 
 pub candidates-rights-requires-clause-a_bound : goal.candidates-rights-requires-clause-a_bound
-candidates-rights-requires-clause-a_bound c = let a = c in let g = given (goal.at.candidates-rights-requires-clause-a_bound c).Start in q_small g
+candidates-rights-requires-clause-a_bound c = let g = given (goal.at.candidates-rights-requires-clause-a_bound c).Start in q_small g
 
 pub candidates-rights-requires-clause-b_bound : goal.candidates-rights-requires-clause-b_bound
-candidates-rights-requires-clause-b_bound c = let a = c in let g = given (goal.at.candidates-rights-requires-clause-b_bound c).Start in p_small g
+candidates-rights-requires-clause-b_bound c = let g = given (goal.at.candidates-rights-requires-clause-b_bound c).Start in p_small g
 
 pub candidates-lefts-requires-clause-table : goal.candidates-lefts-requires-clause-table
-candidates-lefts-requires-clause-table c = let a = c in let g = given (goal.at.candidates-lefts-requires-clause-table c).Start in a.requires.table
+candidates-lefts-requires-clause-table c = c.requires.table
 
 pub candidates-lefts-requires-clause-rows : goal.candidates-lefts-requires-clause-rows
-candidates-lefts-requires-clause-rows c = let a = c in let g = given (goal.at.candidates-lefts-requires-clause-rows c).Start in a.requires.rows
+candidates-lefts-requires-clause-rows c = c.requires.rows
 
 pub candidates-lefts-requires-clause-p_bound : goal.candidates-lefts-requires-clause-p_bound
-candidates-lefts-requires-clause-p_bound c = let a = c in let g = given (goal.at.candidates-lefts-requires-clause-p_bound c).Start in p_small g
+candidates-lefts-requires-clause-p_bound c = let g = given (goal.at.candidates-lefts-requires-clause-p_bound c).Start in p_small g
 
 pub candidates-lefts-requires-clause-q_bound : goal.candidates-lefts-requires-clause-q_bound
-candidates-lefts-requires-clause-q_bound c = let a = c in let g = given (goal.at.candidates-lefts-requires-clause-q_bound c).Start in q_small g
+candidates-lefts-requires-clause-q_bound c = let g = given (goal.at.candidates-lefts-requires-clause-q_bound c).Start in q_small g
 
 pub candidates-lefts-requires-clause-a_bound : goal.candidates-lefts-requires-clause-a_bound
-candidates-lefts-requires-clause-a_bound c = let a = c in let g = given (goal.at.candidates-lefts-requires-clause-a_bound c).Start in p_small g
+candidates-lefts-requires-clause-a_bound c = let g = given (goal.at.candidates-lefts-requires-clause-a_bound c).Start in p_small g
 
 pub candidates-lefts-requires-clause-b_bound : goal.candidates-lefts-requires-clause-b_bound
-candidates-lefts-requires-clause-b_bound c = let a = c in let g = given (goal.at.candidates-lefts-requires-clause-b_bound c).Start in q_small g
+candidates-lefts-requires-clause-b_bound c = let g = given (goal.at.candidates-lefts-requires-clause-b_bound c).Start in q_small g
 
 pub search-init : goal.search-init
 search-init c = let g = given (goal.at.search-init c).Start in
     (refl, c.first_of-r.ensures.first, open-start _ _ g.plate.few c.candidates-lefts.ensures.found (left_miss _ _ _ _ g))
 
 pub splits-across-requires-clause-table : goal.splits-across-requires-clause-table
-splits-across-requires-clause-table c = let a = c in let g = given (goal.at.splits-across-requires-clause-table c).Start in a.requires.table
+splits-across-requires-clause-table c = c.requires.table
 
 pub splits-across-requires-clause-p_bound : goal.splits-across-requires-clause-p_bound
-splits-across-requires-clause-p_bound c = let a = c in let g = given (goal.at.splits-across-requires-clause-p_bound c).Start in p_small g
+splits-across-requires-clause-p_bound c = let g = given (goal.at.splits-across-requires-clause-p_bound c).Start in p_small g
 
 pub splits-across-requires-clause-q_bound : goal.splits-across-requires-clause-q_bound
-splits-across-requires-clause-q_bound c = let a = c in let g = given (goal.at.splits-across-requires-clause-q_bound c).Start in q_small g
+splits-across-requires-clause-q_bound c = let g = given (goal.at.splits-across-requires-clause-q_bound c).Start in q_small g
 
 pub splits-across-requires-clause-r_bound : goal.splits-across-requires-clause-r_bound
-splits-across-requires-clause-r_bound c = let a = c in let g = given (goal.at.splits-across-requires-clause-r_bound c).Start in c.search-test.true
+splits-across-requires-clause-r_bound c = let g = given (goal.at.splits-across-requires-clause-r_bound c).Start in c.search-test.true
 
 pub right_candidates-ss-requires-clause-table : goal.right_candidates-ss-requires-clause-table
-right_candidates-ss-requires-clause-table c = let b = c in let g = given (goal.at.right_candidates-ss-requires-clause-table c).Start in b.requires.table
+right_candidates-ss-requires-clause-table c = c.requires.table
 
 pub right_candidates-ss-requires-clause-p_bound : goal.right_candidates-ss-requires-clause-p_bound
-right_candidates-ss-requires-clause-p_bound c = let b = c in let g = given (goal.at.right_candidates-ss-requires-clause-p_bound c).Start in p_small g
+right_candidates-ss-requires-clause-p_bound c = let g = given (goal.at.right_candidates-ss-requires-clause-p_bound c).Start in p_small g
 
 pub right_candidates-ss-requires-clause-q_bound : goal.right_candidates-ss-requires-clause-q_bound
-right_candidates-ss-requires-clause-q_bound c = let b = c in let g = given (goal.at.right_candidates-ss-requires-clause-q_bound c).Start in q_small g
+right_candidates-ss-requires-clause-q_bound c = let g = given (goal.at.right_candidates-ss-requires-clause-q_bound c).Start in q_small g
 
 pub right_candidates-ss-requires-clause-r_bound : goal.right_candidates-ss-requires-clause-r_bound
-right_candidates-ss-requires-clause-r_bound c = let b = c in let g = given (goal.at.right_candidates-ss-requires-clause-r_bound c).Start in c.search-test.true
+right_candidates-ss-requires-clause-r_bound c = let g = given (goal.at.right_candidates-ss-requires-clause-r_bound c).Start in c.search-test.true
 
 pub right_candidates-ss-requires-clause-rights_value : goal.right_candidates-ss-requires-clause-rights_value
-right_candidates-ss-requires-clause-rights_value c = let b = c in let g = given (goal.at.right_candidates-ss-requires-clause-rights_value c).Start in b.candidates-rights.ensures.found
+right_candidates-ss-requires-clause-rights_value c = c.candidates-rights.ensures.found
 
 pub loop-s-init : goal.loop-s-init
-loop-s-init c = let d = c in
-    let g = given (goal.at.loop-s-init c).Start in
+loop-s-init c = let g = given (goal.at.loop-s-init c).Start in
     let fresh = open-start _ _ g.plate.few c.right_candidates-ss.ensures.found (right_miss _ _ _ _ g _ (left_here (goal.at.loop-s-init c).In-search)) in
-    (d.search.invariant.0, c.first_of-s.ensures.first, fresh)
+    (c.search.invariant.0, c.first_of-s.ensures.first, fresh)
 
 pub is_match-requires-clause-plate : goal.is_match-requires-clause-plate
-is_match-requires-clause-plate c = let d = c in let a = d in let g = given (goal.at.is_match-requires-clause-plate c).Start in let r_mark = candidate-mark_lem _ _ _ _ _ _ _ (left_here (goal.at.is_match-requires-clause-plate c).In-search) in let s_mark = right_mark _ _ _ _ _ _ (right-here (goal.at.is_match-requires-clause-plate c).In-loop-s) in let across = c.splits-across.ensures.split in g.plate
+is_match-requires-clause-plate c = let g = given (goal.at.is_match-requires-clause-plate c).Start in let r_mark = candidate-mark_lem _ _ _ _ _ _ _ (left_here (goal.at.is_match-requires-clause-plate c).In-search) in let s_mark = right_mark _ _ _ _ _ _ (right-here (goal.at.is_match-requires-clause-plate c).In-loop-s) in let across = c.splits-across.ensures.split in g.plate
 
 pub is_match-requires-clause-table : goal.is_match-requires-clause-table
-is_match-requires-clause-table c = let d = c in let a = d in let g = given (goal.at.is_match-requires-clause-table c).Start in let r_mark = candidate-mark_lem _ _ _ _ _ _ _ (left_here (goal.at.is_match-requires-clause-table c).In-search) in let s_mark = right_mark _ _ _ _ _ _ (right-here (goal.at.is_match-requires-clause-table c).In-loop-s) in let across = c.splits-across.ensures.split in a.requires.table
+is_match-requires-clause-table c = c.requires.table
 
 pub is_match-requires-clause-mark : goal.is_match-requires-clause-mark
-is_match-requires-clause-mark c = let d = c in let a = d in let g = given (goal.at.is_match-requires-clause-mark c).Start in let r_mark = candidate-mark_lem _ _ _ _ _ _ _ (left_here (goal.at.is_match-requires-clause-mark c).In-search) in let s_mark = right_mark _ _ _ _ _ _ (right-here (goal.at.is_match-requires-clause-mark c).In-loop-s) in let across = c.splits-across.ensures.split in g.p_mark
+is_match-requires-clause-mark c = let g = given (goal.at.is_match-requires-clause-mark c).Start in let r_mark = candidate-mark_lem _ _ _ _ _ _ _ (left_here (goal.at.is_match-requires-clause-mark c).In-search) in let s_mark = right_mark _ _ _ _ _ _ (right-here (goal.at.is_match-requires-clause-mark c).In-loop-s) in let across = c.splits-across.ensures.split in g.p_mark
 
 pub is_match-requires-clause-mark_2 : goal.is_match-requires-clause-mark_2
-is_match-requires-clause-mark_2 c = let d = c in let a = d in let g = given (goal.at.is_match-requires-clause-mark_2 c).Start in let r_mark = candidate-mark_lem _ _ _ _ _ _ _ (left_here (goal.at.is_match-requires-clause-mark_2 c).In-search) in let s_mark = right_mark _ _ _ _ _ _ (right-here (goal.at.is_match-requires-clause-mark_2 c).In-loop-s) in let across = c.splits-across.ensures.split in g.q_mark
+is_match-requires-clause-mark_2 c = let g = given (goal.at.is_match-requires-clause-mark_2 c).Start in let r_mark = candidate-mark_lem _ _ _ _ _ _ _ (left_here (goal.at.is_match-requires-clause-mark_2 c).In-search) in let s_mark = right_mark _ _ _ _ _ _ (right-here (goal.at.is_match-requires-clause-mark_2 c).In-loop-s) in let across = c.splits-across.ensures.split in g.q_mark
 
 pub is_match-requires-clause-mark_3 : goal.is_match-requires-clause-mark_3
-is_match-requires-clause-mark_3 c = let d = c in let a = d in let g = given (goal.at.is_match-requires-clause-mark_3 c).Start in let r_mark = candidate-mark_lem _ _ _ _ _ _ _ (left_here (goal.at.is_match-requires-clause-mark_3 c).In-search) in let s_mark = right_mark _ _ _ _ _ _ (right-here (goal.at.is_match-requires-clause-mark_3 c).In-loop-s) in let across = c.splits-across.ensures.split in r_mark
+is_match-requires-clause-mark_3 c = let g = given (goal.at.is_match-requires-clause-mark_3 c).Start in let r_mark = candidate-mark_lem _ _ _ _ _ _ _ (left_here (goal.at.is_match-requires-clause-mark_3 c).In-search) in let s_mark = right_mark _ _ _ _ _ _ (right-here (goal.at.is_match-requires-clause-mark_3 c).In-loop-s) in let across = c.splits-across.ensures.split in r_mark
 
 pub is_match-requires-clause-mark_4 : goal.is_match-requires-clause-mark_4
-is_match-requires-clause-mark_4 c = let d = c in let a = d in let g = given (goal.at.is_match-requires-clause-mark_4 c).Start in let r_mark = candidate-mark_lem _ _ _ _ _ _ _ (left_here (goal.at.is_match-requires-clause-mark_4 c).In-search) in let s_mark = right_mark _ _ _ _ _ _ (right-here (goal.at.is_match-requires-clause-mark_4 c).In-loop-s) in let across = c.splits-across.ensures.split in s_mark
+is_match-requires-clause-mark_4 c = let g = given (goal.at.is_match-requires-clause-mark_4 c).Start in let r_mark = candidate-mark_lem _ _ _ _ _ _ _ (left_here (goal.at.is_match-requires-clause-mark_4 c).In-search) in let s_mark = right_mark _ _ _ _ _ _ (right-here (goal.at.is_match-requires-clause-mark_4 c).In-loop-s) in let across = c.splits-across.ensures.split in s_mark
 
 pub is_match-requires-clause-across_value : goal.is_match-requires-clause-across_value
-is_match-requires-clause-across_value c = let d = c in let a = d in let g = given (goal.at.is_match-requires-clause-across_value c).Start in let r_mark = candidate-mark_lem _ _ _ _ _ _ _ (left_here (goal.at.is_match-requires-clause-across_value c).In-search) in let s_mark = right_mark _ _ _ _ _ _ (right-here (goal.at.is_match-requires-clause-across_value c).In-loop-s) in let across = c.splits-across.ensures.split in across
+is_match-requires-clause-across_value c = let g = given (goal.at.is_match-requires-clause-across_value c).Start in let r_mark = candidate-mark_lem _ _ _ _ _ _ _ (left_here (goal.at.is_match-requires-clause-across_value c).In-search) in let s_mark = right_mark _ _ _ _ _ _ (right-here (goal.at.is_match-requires-clause-across_value c).In-loop-s) in let across = c.splits-across.ensures.split in across
 
 pub rest_of-ss-requires-clause-k_value : goal.rest_of-ss-requires-clause-k_value
 rest_of-ss-requires-clause-k_value c = c.loop-s.invariant.1
@@ -164,40 +162,34 @@ pub rest_of-ss-requires-clause-k_bound : goal.rest_of-ss-requires-clause-k_bound
 rest_of-ss-requires-clause-k_bound c = c.loop-s-test.true
 
 pub loop-s-smaller : goal.loop-s-smaller
-loop-s-smaller c = let b = c in
-    open-less _ _ b.loop-s.invariant.1 b.loop-s-test.true c.rest_of-ss.ensures.rest c.first_of-s-in-loop-s.ensures.first
+loop-s-smaller c = open-less _ _ c.loop-s.invariant.1 c.loop-s-test.true c.rest_of-ss.ensures.rest c.first_of-s-in-loop-s.ensures.first
 
 pub loop-s-preserved : goal.loop-s-preserved
-loop-s-preserved c = let b = c in
-    let i = b.loop-s.invariant in
-    let d = b in
+loop-s-preserved c = let i = c.loop-s.invariant in
     let g = given (goal.at.loop-s-preserved c).Start in
     let no = sym c.is_match.ensures.fits ∙ c.if-is_match.false in
     let miss = match_no _ _ _ _ g _ (left_here (goal.at.loop-s-preserved c).In-search) _ (right-here (goal.at.loop-s-preserved c).In-loop-s) no in
     (i.0, c.first_of-s-in-loop-s.ensures.first, open_next i.2 i.1 g.plate.few miss c.rest_of-ss.ensures.rest)
 
 pub rest_of-lefts-requires-clause-k_value : goal.rest_of-lefts-requires-clause-k_value
-rest_of-lefts-requires-clause-k_value c = let d = c in d.search.invariant.1
+rest_of-lefts-requires-clause-k_value c = c.search.invariant.1
 
 pub rest_of-lefts-requires-clause-k_bound : goal.rest_of-lefts-requires-clause-k_bound
-rest_of-lefts-requires-clause-k_bound c = let d = c in d.search-test.true
+rest_of-lefts-requires-clause-k_bound c = c.search-test.true
 
 pub search-smaller : goal.search-smaller
-search-smaller c = let d = c in
-    open-less _ _ d.search.invariant.1 d.search-test.true c.rest_of-lefts.ensures.rest c.first_of-r-in-search.ensures.first
+search-smaller c = open-less _ _ c.search.invariant.1 c.search-test.true c.rest_of-lefts.ensures.rest c.first_of-r-in-search.ensures.first
 
 pub search-preserved : goal.search-preserved
 unfolding pick_right
-search-preserved c = let b = c in
-    let d = b in
-    let i = b.loop-s.invariant in
-    let j = d.search.invariant in
+search-preserved c = let i = c.loop-s.invariant in
+    let j = c.search.invariant in
     let few = (given (goal.at.search-preserved c).Start).plate.few in
-    let miss = open_end i.2 i.1 few b.loop-s-test.false in
+    let miss = open_end i.2 i.1 few c.loop-s-test.false in
     (i.0, c.first_of-r-in-search.ensures.first, open_next j.2 j.1 few miss c.rest_of-lefts.ensures.rest)
 
 pub returns-then-found : goal.returns-then-found
-returns-then-found c = record { first = stopped_somewhere c.if-found.true (stopped (goal.at.returns-then-found c).Left-search) }
+returns-then-found c = record { first = stopped_somewhere c.if-found.true (stopped (goal.at.returns-then-found c).Left-search (given (goal.at.returns-then-found c).Start)) }
 
 pub returns : goal.returns
-returns c = record { first = stopped_nowhere c.if-found.false (stopped (goal.at.returns c).Left-search) }
+returns c = record { first = stopped_nowhere c.if-found.false (stopped (goal.at.returns c).Left-search (given (goal.at.returns c).Start)) }

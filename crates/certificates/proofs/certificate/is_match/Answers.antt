@@ -23,23 +23,23 @@ weighed c =
 
 split :
     (c : After-has_mark) →
-    let c = c.args in
-    split_mark c.m.now c.p c.q c.r c.s ≡ c.has_mark.result
+    let a = c.args in
+    split_mark a.m.now a.p a.q a.r a.s ≡ c.has_mark.result
 split c =
     let few = c.requires.plate.few in
     across_has _ _ _ _ _ (omega arith) c.requires.across_value c.has_mark.ensures.member
 
 pub weight-requires-clause-in_range : goal.weight-requires-clause-in_range
-weight-requires-clause-in_range c = let a = c in subst InRange (sym c.mark.ensures.placed) (mark_in_range a.requires.plate a.args.p)
+weight-requires-clause-in_range c = subst InRange (sym c.mark.ensures.placed) (mark_in_range c.requires.plate c.args.p)
 
 pub weight-requires-clause-in_range_2 : goal.weight-requires-clause-in_range_2
-weight-requires-clause-in_range_2 c = let a = c in subst InRange (sym c.mark-2.ensures.placed) (mark_in_range a.requires.plate a.args.q)
+weight-requires-clause-in_range_2 c = subst InRange (sym c.mark-2.ensures.placed) (mark_in_range c.requires.plate c.args.q)
 
 pub weight-requires-2-clause-in_range : goal.weight-requires-2-clause-in_range
-weight-requires-2-clause-in_range c = let a = c in subst InRange (sym c.mark-3.ensures.placed) (mark_in_range a.requires.plate a.args.r)
+weight-requires-2-clause-in_range c = subst InRange (sym c.mark-3.ensures.placed) (mark_in_range c.requires.plate c.args.r)
 
 pub weight-requires-2-clause-in_range_2 : goal.weight-requires-2-clause-in_range_2
-weight-requires-2-clause-in_range_2 c = let a = c in subst InRange (sym c.mark-4.ensures.placed) (mark_in_range a.requires.plate a.args.s)
+weight-requires-2-clause-in_range_2 c = subst InRange (sym c.mark-4.ensures.placed) (mark_in_range c.requires.plate c.args.s)
 
 pub returns-then-weight : goal.returns-then-weight
 returns-then-weight c = record { fits = c.none_left.ensures.none ∙ goes_light _ _ _ _ _ (sym (weighed (goal.at.returns-then-weight c).After-weight-2) ∙ c.if-weight.true) }

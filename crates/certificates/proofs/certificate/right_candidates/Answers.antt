@@ -6,7 +6,7 @@ use Rattle.std.proofs.Common.{rules}
 use Rattle.certificates.proofs.certificate.right_candidates.Goals as goal
 
 pub returns-then-none_left : goal.returns-then-none_left
-returns-then-none_left c = let a = c in record { found = right-all _ _ a.args.p a.args.q a.args.r (sym c.none_left.ensures.none ∙ c.if-none_left.true) a.requires.rights_value }
+returns-then-none_left c = record { found = right-all _ _ c.args.p c.args.q c.args.r (sym c.none_left.ensures.none ∙ c.if-none_left.true) c.requires.rights_value }
 
 pub returns : goal.returns
-returns c = let a = c in record { found = right_none _ _ a.args.p a.args.q a.args.r (sym c.none_left.ensures.none ∙ c.if-none_left.false) }
+returns c = record { found = right_none _ _ c.args.p c.args.q c.args.r (sym c.none_left.ensures.none ∙ c.if-none_left.false) }

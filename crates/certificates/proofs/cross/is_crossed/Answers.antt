@@ -41,7 +41,7 @@ pub is_crossed_from-requires-clause-r_bound : goal.is_crossed_from-requires-clau
 is_crossed_from-requires-clause-r_bound c = c.loop-r-test.true
 
 pub returns-then-is_crossed_from : goal.returns-then-is_crossed_from
-returns-then-is_crossed_from c = let h = c.requires in let l = c.loop-r in let small = c.loop-r-test.true in let left = l.invariant.1.lefts _ small (first_member _ _ l.invariant.0 small) in let hit = sym c.is_crossed_from.ensures.crossed ∙ c.if-is_crossed_from.true in record { crossed = sym (from-crosses _ _ _ _ (record { up = c.requires.p_lt_q; marks = c.requires.mark }) l.r left hit) }
+returns-then-is_crossed_from c = let l = c.loop-r in let small = c.loop-r-test.true in let left = l.invariant.1.lefts _ small (first_member _ _ l.invariant.0 small) in let hit = sym c.is_crossed_from.ensures.crossed ∙ c.if-is_crossed_from.true in record { crossed = sym (from-crosses _ _ _ _ (record { up = c.requires.p_lt_q; marks = c.requires.mark }) l.r left hit) }
 
 pub rest_of-lefts-requires-clause-k_value : goal.rest_of-lefts-requires-clause-k_value
 rest_of-lefts-requires-clause-k_value c = c.loop-r.invariant.0
@@ -50,9 +50,8 @@ pub rest_of-lefts-requires-clause-k_bound : goal.rest_of-lefts-requires-clause-k
 rest_of-lefts-requires-clause-k_bound c = c.loop-r-test.true
 
 pub loop-r-smaller : goal.loop-r-smaller
-loop-r-smaller c = let test = c in
-    let first = test.loop-r.invariant.0 in
-    let later = next_later _ _ first _ c.rest_of-lefts.ensures.rest _ c.first_of-r-in-loop-r.ensures.first test.loop-r-test.true in
+loop-r-smaller c = let first = c.loop-r.invariant.0 in
+    let later = next_later _ _ first _ c.rest_of-lefts.ensures.rest _ c.first_of-r-in-loop-r.ensures.first c.loop-r-test.true in
     omega arith
 
 pub loop-r-preserved : goal.loop-r-preserved
@@ -63,7 +62,7 @@ loop-r-preserved c = let l = c.loop-r in (
 )
 
 pub returns : goal.returns
-returns c = let h = c.requires in let l = c.loop-r in record {
+returns c = let l = c.loop-r in record {
   crossed = sym
       (from-none _ _ _ _ (record { up = c.requires.p_lt_q; marks = c.requires.mark }) c.requires.plate.few c.requires.clean.edges
       (pass-end _ _ _ _ l.invariant.0 c.loop-r-test.false l.invariant.1));

@@ -6,7 +6,7 @@ use Rattle.std.proofs.Common.{rules}
 use Rattle.certificates.proofs.cross.is_crossed_from.Goals as goal
 
 pub returns : goal.returns
-returns c = let h = c.requires in record {
+returns c = record {
   crossed = from-three _ _ _ _ _
       (c.row.ensures.row ∙ c.requires.rows.each _ c.requires.r_bound)
       c.left_set.ensures.left

@@ -18,28 +18,28 @@ unfolding pair_at
 loop-i-init c = (search rules, refl, rows_start _ c.requires.d_value)
 
 pub join-requires-clause-plate : goal.join-requires-clause-plate
-join-requires-clause-plate c = let s = c in let l = c.loop-i in let n = place s.args.m.now l.i l.invariant.1 (omega arith) in s.requires.plate
+join-requires-clause-plate c = c.requires.plate
 
 pub join-requires-clause-clean : goal.join-requires-clause-clean
-join-requires-clause-clean c = let s = c in let l = c.loop-i in let n = place s.args.m.now l.i l.invariant.1 (omega arith) in s.requires.clean
+join-requires-clause-clean c = c.requires.clean
 
 pub join-requires-clause-rows : goal.join-requires-clause-rows
-join-requires-clause-rows c = let s = c in let l = c.loop-i in let n = place s.args.m.now l.i l.invariant.1 (omega arith) in l.invariant.2
+join-requires-clause-rows c = let l = c.loop-i in let n = place c.args.m.now l.i l.invariant.1 (omega arith) in l.invariant.2
 
 pub join-requires-clause-a_lt_b : goal.join-requires-clause-a_lt_b
-join-requires-clause-a_lt_b c = let s = c in let l = c.loop-i in let n = place s.args.m.now l.i l.invariant.1 (omega arith) in n.up
+join-requires-clause-a_lt_b c = let l = c.loop-i in let n = place c.args.m.now l.i l.invariant.1 (omega arith) in n.up
 
 pub join-requires-clause-mark : goal.join-requires-clause-mark
-join-requires-clause-mark c = let s = c in let l = c.loop-i in let n = place s.args.m.now l.i l.invariant.1 (omega arith) in n.mark
+join-requires-clause-mark c = let l = c.loop-i in let n = place c.args.m.now l.i l.invariant.1 (omega arith) in n.mark
 
 pub join-requires-clause-i_value : goal.join-requires-clause-i_value
-join-requires-clause-i_value c = let s = c in let l = c.loop-i in let n = place s.args.m.now l.i l.invariant.1 (omega arith) in n.number
+join-requires-clause-i_value c = let l = c.loop-i in let n = place c.args.m.now l.i l.invariant.1 (omega arith) in n.number
 
 pub next_pair-p-requires-clause-a_lt_b : goal.next_pair-p-requires-clause-a_lt_b
-next_pair-p-requires-clause-a_lt_b c = let s = c in let l = c.loop-i in let n = place s.args.m.now l.i l.invariant.1 (omega arith) in let few = s.requires.plate.few in let mark = n.mark in n.up
+next_pair-p-requires-clause-a_lt_b c = let l = c.loop-i in let n = place c.args.m.now l.i l.invariant.1 (omega arith) in let few = c.requires.plate.few in let mark = n.mark in n.up
 
 pub next_pair-p-requires-clause-b_bound : goal.next_pair-p-requires-clause-b_bound
-next_pair-p-requires-clause-b_bound c = let s = c in let l = c.loop-i in let n = place s.args.m.now l.i l.invariant.1 (omega arith) in let few = s.requires.plate.few in let mark = n.mark in omega arith
+next_pair-p-requires-clause-b_bound c = let l = c.loop-i in let n = place c.args.m.now l.i l.invariant.1 (omega arith) in let few = c.requires.plate.few in let mark = n.mark in omega arith
 
 pub loop-i-preserved : goal.loop-i-preserved
 loop-i-preserved c = let l = c.loop-i in

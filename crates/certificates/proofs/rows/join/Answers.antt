@@ -5,12 +5,12 @@ use Rattle.std.proofs.Common.{rules}
 use Rattle.certificates.proofs.rows.join.Goals as goal
 
 pub returns-then-st-i-eq0 : goal.returns-then-st-i-eq0
-returns-then-st-i-eq0 c = let h = c.requires.1.1 in record { joined = rows_skipped _ _ _ _ c.requires.a_lt_b c.requires.mark c.requires.i_value c.requires.rows c.if-st-i-eq0.true }
+returns-then-st-i-eq0 c = record { joined = rows_skipped _ _ _ _ c.requires.a_lt_b c.requires.mark c.requires.i_value c.requires.rows c.if-st-i-eq0.true }
 
 pub returns : goal.returns
-returns c = let second = c in let first = second in let s = first in let h = s.requires.1.1 in record {
-  joined = rows-joined _ _ _ _ c.requires.a_lt_b c.requires.mark c.requires.i_value c.requires.rows s.requires.plate s.requires.clean
-      first.if-st-i-eq0.false
-      first.row.ensures.row first.add-x.ensures.added first.put_row.ensures.put
-      second.row-2.ensures.row second.add-y.ensures.added second.put_row-2.ensures.put;
+returns c = record {
+  joined = rows-joined _ _ _ _ c.requires.a_lt_b c.requires.mark c.requires.i_value c.requires.rows c.requires.plate c.requires.clean
+      c.if-st-i-eq0.false
+      c.row.ensures.row c.add-x.ensures.added c.put_row.ensures.put
+      c.row-2.ensures.row c.add-y.ensures.added c.put_row-2.ensures.put;
 }
