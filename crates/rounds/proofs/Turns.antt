@@ -4,8 +4,6 @@ use mathlib.Core.Path.{◌≡◌, refl, sym, ap, ◌∙◌, subst}
 use mathlib.Core.Bool.{Bool, true, false}
 use mathlib.Core.List.{List, [], ◌∷◌}
 use mathlib.Core.Logic.{◌⊎◌, ⊎_elim}
-use types.Run.{OneOf}
-use denote.Enum.Declared.{tag_of}
 use Prim.Native.Nat.{ℕ, suc, ◌+◌, ◌<◌, ◌≤◌}
 use native.Mathlib.Numerals.{add-one}
 use native.Mathlib.Omega.{arith}
@@ -74,29 +72,13 @@ state_over run st n = go run.halt (λ e. n e)
     go Spent k = refl
     go (Stuck i) k = refl
 
--- what is not the first of the four cases is not going
-no_key : (◌≡◌ {A = ℕ} 0 1) ⊎ ((◌≡◌ {A = ℕ} 0 2) ⊎ (◌≡◌ {A = ℕ} 0 3)) → ⊥
-no_key k = ⊎_elim (λ e. omega arith) (λ l. ⊎_elim (λ e. omega arith) (λ e. omega arith) l) k
-
-pub halted : (h : Halt) → OneOf (1 ∷ 2 ∷ 3 ∷ []) (tag_of Halt.the_type h) → ¬ (h ≡ Going)
-halted Going k e = no_key k
-halted Finished k e = let z : ◌≡◌ {A = ℕ} 0 1 = cc in omega arith
-halted Spent k e = let z : ◌≡◌ {A = ℕ} 0 1 = cc in omega arith
-halted (Stuck i) k e = let z : ◌≡◌ {A = ℕ} 0 1 = cc in omega arith
-
 -- what is neither stuck nor finished is told as paused
-pub paused_by : (h : Halt) → OneOf (0 ∷ 1 ∷ 2 ∷ []) (tag_of Halt.the_type h) → OneOf (0 ∷ 2 ∷ 3 ∷ []) (tag_of Halt.the_type h) → outcome_by h ≡ paused
+pub paused_by : (h : Halt) → ((i : ℕ) → ¬ (h ≡ Stuck i)) → ¬ (h ≡ Finished) → outcome_by h ≡ paused
 unfolding outcome_by
 paused_by Going j k = refl
-paused_by Finished j k = absurd (not_one k)
-  where
-    not_one : (◌≡◌ {A = ℕ} 1 0) ⊎ ((◌≡◌ {A = ℕ} 1 2) ⊎ (◌≡◌ {A = ℕ} 1 3)) → ⊥
-    not_one k = ⊎_elim (λ e. omega arith) (λ l. ⊎_elim (λ e. omega arith) (λ e. omega arith) l) k
+paused_by Finished j k = absurd (k refl)
 paused_by Spent j k = refl
-paused_by (Stuck i) j k = absurd (not_three j)
-  where
-    not_three : (◌≡◌ {A = ℕ} 3 0) ⊎ ((◌≡◌ {A = ℕ} 3 1) ⊎ (◌≡◌ {A = ℕ} 3 2)) → ⊥
-    not_three k = ⊎_elim (λ e. omega arith) (λ l. ⊎_elim (λ e. omega arith) (λ e. omega arith) l) k
+paused_by (Stuck i) j k = absurd (j i refl)
 
 -- ---- a pair's turn
 module _ (y : System) (budget i : ℕ) (run : Run) (st : List ℕ) where
