@@ -1,0 +1,15 @@
+-- `is_pair` meets its contract. Assumes nothing.
+use mathlib.Core.Path.{sym}
+use borrow.Author.Tests.{lt-ltb, le-ltb}
+use Rattle.plane.proofs.Laws.Tells.{cond_yes, cond_no}
+use Rattle.driver.specs.Driver.{is_pair}
+use Rattle.std.proofs.Common.{rules}
+use Rattle.driver.proofs.is_pair.Goals as goal
+
+pub returns-then-a-b : goal.returns-then-a-b
+unfolding is_pair
+returns-then-a-b c = record { pair = sym (cond_yes _ _ (lt-ltb _ _ c.if-a-b.true)) }
+
+pub returns : goal.returns
+unfolding is_pair
+returns c = record { pair = sym (cond_no _ _ (le-ltb _ _ c.if-a-b.false)) }
