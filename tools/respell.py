@@ -4,7 +4,7 @@
 usage: python3 tools/respell.py [--dry]     at the top of the checkout
 
  - a definition in lower camel case becomes snake case (`emptyEdge`: `empty_edge`), in crates/, the must-fail edits, README and docs/;
- - a dash inside a lemma's or a field's name becomes `_`, but where it joins the names of two definitions (`pair_texts-length`);
+ - a dash inside a lemma's or a field's name becomes `_`, but where it joins a definition and a word of std (`pair_texts-length`);
  - names that are words of Rattle's tactics get another: `search` of the theory of striking is `search_result`, `firstOf` is `first_so_far`;
  - in the must-fail edits a prime is an apostrophe and a projection is written tight.
 
@@ -16,7 +16,7 @@ import re
 import sys
 
 TOKEN = re.compile(r"[^\s(){};,.@\"«»\[\]λ:`]+")
-DEF = re.compile(r"\s*(?:(?:abbrev|unfoldable|pub|record|data|opaque|ruleset|axiom|mutual)\s+)*([^\s:(){}]+)\s+(?:[({].*)?:\s")
+DEF = re.compile(r"\s*(?:(?:abbrev|unfoldable|pub|record|data|opaque|ruleset|axiom|mutual)\s+)*([^\s:(){}]+)\s+(?:[({].*)?:(?:\s|$)")
 # std's words that are the second part of a joined name
 WORDS = {"length", "append", "take", "drop", "sum", "replicate", "set", "get_or"}
 # names that would fall together with others, or that Rattle has taken
@@ -81,8 +81,8 @@ for path in all_antt:
 
 camel = {n: snake(n) for n in defined if re.match(r"[a-z][A-Za-z0-9]*[A-Z]", n.split("-")[0])}
 camel = {n: s for n, s in camel.items() if s != n}
-base = {camel.get(n, n) for n in spoken if "-" not in n} | WORDS
-taken = {camel.get(n, n) for n in defined}
+spoken_of = {camel.get(n, n) for n in spoken if "-" not in n}
+taken = {camel.get(n, n) for n in defined if "-" not in n}
 dashed = {}
 for n in defined:
     s = camel.get(n, n)
@@ -91,9 +91,9 @@ for n in defined:
     parts = s.split("-")
     out = parts[0]
     for a, b in zip(parts, parts[1:]):
-        joins = a in base and b in base
+        joins = a in spoken_of and b in WORDS
         out += ("-" if joins else "_") + b
-    if out in taken:
+    if out != n and out in taken:
         out += "_lem"
     if out != n:
         dashed[n] = out
@@ -191,7 +191,11 @@ def turn_edit(path, text):
 
 
 def turn_page(text):
-    return re.sub(r"`([^`\n]*)`", lambda m: "`" + turn_tokens(m.group(1), names) + "`", text)
+    def word(m):
+        w = m.group(0)
+        return names.get(w) or (snake(w) if re.match(r"[a-z][a-z0-9]*[A-Z]", w) else w)
+
+    return re.sub(r"`([^`\n]*)`", lambda m: "`" + TOKEN.sub(word, m.group(1)) + "`", text)
 
 
 def main():

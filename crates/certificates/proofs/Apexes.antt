@@ -22,10 +22,10 @@ use Rattle.plane.proofs.Laws.Bounds.{rd, back}
 use Rattle.sets.specs.declared.Set.{Set}
 use Rattle.sets.specs.Sets.{set_of, has}
 use Rattle.masks.specs.Table.{none_left, split_mark}
-use Rattle.sets.proofs.Laws.Sets.{has-set_lem}
+use Rattle.sets.proofs.Laws.Sets.{has-set}
 use Rattle.sides.proofs.Laws.{left_right}
 use Rattle.masks.proofs.Laws.Triangle.{hollow_left, hollow_right}
-use Rattle.masks.proofs.Laws.Cross.{split-crosses}
+use Rattle.masks.proofs.Laws.Cross.{split_crosses}
 use Rattle.striking.proofs.Tests as tests
 use Rattle.striking.proofs.Tests.{not_both, is_false, both_first, both_second}
 use Rattle.certificates.specs.declared.certificate.Pick.TheVariants.{Nothing, Apexes}
@@ -35,12 +35,12 @@ use Rattle.certificates.specs.Rows.{candidate, right_candidate, goes_with}
 use Rattle.certificates.proofs.Rule7.{lighter, apex_is, left_apart}
 use Rattle.certificates.proofs.First.{pick_none}
 use Rattle.plane.proofs.Laws.Edge.{empty_edge_swap}
-use Rattle.certificates.proofs.Candidates.{Candidate, candidate_is, is-candidate}
+use Rattle.certificates.proofs.Candidates.{Candidate, candidate_is, is_candidate}
 
 -- a side that belongs to the set is an empty edge
-joined-empty_lem : (m : List ℤ) (S : ℕ → Bool) (p i : ℕ) → joined (edges_of m S) p i ≡ true → empty_edge m p i ≡ true
+joined_empty : (m : List ℤ) (S : ℕ → Bool) (p i : ℕ) → joined (edges_of m S) p i ≡ true → empty_edge m p i ≡ true
 unfolding joined edges_of
-joined-empty_lem m S p i h = go (ltb p i) h
+joined_empty m S p i h = go (ltb p i) h
   where
     go : (t : Bool) → cond t (edges_of m S p i) (edges_of m S i p) ≡ true → empty_edge m p i ≡ true
     go true e = both_second (pairs_of S p i) (empty_edge m p i) e
@@ -78,19 +78,19 @@ module _ (m : List ℤ) (S : ℕ → Bool) (p q : ℕ) (given : Given m p q) whe
   hq = given.q_mark
 
   -- off the line of p and q, with sides of the set
-  apex-hollow :
+  apex_hollow :
       (r : ℕ) → on_line (mark m p) (mark m q) (mark m r) ≡ false → joined K p r ≡ true → joined K q r ≡ true →
       apex m K p q r ≡ hollow m p q r
   unfolding apex empty_triangle
-  apex-hollow r n pr qr =
-      cond_yes _ _ pr ∙ cond_yes _ _ qr ∙ cond_no _ _ n ∙ cond_yes _ _ given.empty ∙ cond_yes _ _ (joined-empty_lem m S q r qr)
-      ∙ cond_yes _ _ (empty_edge_swap m r p ∙ joined-empty_lem m S p r pr)
+  apex_hollow r n pr qr =
+      cond_yes _ _ pr ∙ cond_yes _ _ qr ∙ cond_no _ _ n ∙ cond_yes _ _ given.empty ∙ cond_yes _ _ (joined_empty m S q r qr)
+      ∙ cond_yes _ _ (empty_edge_swap m r p ∙ joined_empty m S p r pr)
 
   left_apex_lem : (r : ℕ) → Candidate m K p q p q r → left_apex m K p q r ≡ none_left m p q r
   unfolding left_apex
   left_apex_lem r c =
       cond_yes _ _ c.left
-      ∙ apex-hollow r (tells_false on_line_tells (λ z. off (tells_yes left_of_tells c.left) z)) c.p_in c.q_in
+      ∙ apex_hollow r (tells_false on_line_tells (λ z. off (tells_yes left_of_tells c.left) z)) c.p_in c.q_in
       ∙ sym (hollow_left m p q r given.plate hp hq c.marked c.left)
 
   right_of_lem : (s : ℕ) → Candidate m K p q q p s → right_of (mark m p) (mark m q) (mark m s) ≡ true
@@ -100,7 +100,7 @@ module _ (m : List ℤ) (S : ℕ → Bool) (p q : ℕ) (given : Given m p q) whe
   unfolding right_apex
   right_apex_lem s c =
       cond_yes _ _ (right_of_lem s c)
-      ∙ apex-hollow s (tells_false on_line_tells (λ z. off (tells_yes left_of_tells c.left) (zswap z))) c.p_in c.q_in
+      ∙ apex_hollow s (tells_false on_line_tells (λ z. off (tells_yes left_of_tells c.left) (zswap z))) c.p_in c.q_in
       ∙ sym (hollow_right m p q s given.plate hp hq c.marked (right_of_lem s c))
 
   -- what is an apex is a candidate
@@ -110,7 +110,7 @@ module _ (m : List ℤ) (S : ℕ → Bool) (p q : ℕ) (given : Given m p q) whe
       let l = both_first (left_of (mark m p) (mark m q) (mark m r)) _ h in
       let j = apex_is m K p q r (both_second (left_of (mark m p) (mark m q) (mark m r)) _ h) in
       let d = left_apart m p q r (tells_yes left_of_tells l) in
-      is-candidate m K p q p q r hp hq hp hq hr d.0 d.1 j.0 j.1 l
+      is_candidate m K p q p q r hp hq hp hq hr d.0 d.1 j.0 j.1 l
 
   right_candidate_lem : (s : ℕ) → IsMark m s → right_apex m K p q s ≡ true → candidate m K p q q p s ≡ true
   unfolding right_apex
@@ -118,7 +118,7 @@ module _ (m : List ℤ) (S : ℕ → Bool) (p q : ℕ) (given : Given m p q) whe
       let l = both_first (right_of (mark m p) (mark m q) (mark m s)) _ h in
       let j = apex_is m K p q s (both_second (right_of (mark m p) (mark m q) (mark m s)) _ h) in
       let d = left_apart m q p s (tells_yes right_of_tells l) in
-      is-candidate m K p q q p s hq hp hp hq hs d.1 d.0 j.0 j.1 (left_right _ _ _ ∙ l)
+      is_candidate m K p q q p s hq hp hp hq hs d.1 d.0 j.0 j.1 (left_right _ _ _ ∙ l)
 
   -- ---- what is picked
   pick_no : (r s : ℕ) → fits m K p q r s ≡ false → pick_fitting m K p q r s ≡ Nothing
@@ -162,7 +162,7 @@ module _ (m : List ℤ) (S : ℕ → Bool) (p q : ℕ) (given : Given m p q) whe
       unfolding fits goes_with holds_against right_candidate
       goes_with_lem =
           ap (λ (t : Bool). cond (cond t (lighter m p q r s) true) (none_left m q p s) false)
-          (split-crosses m p q r s hp hq left_one.marked right_one.marked left_one.left (right_of_lem s right_one))
+          (split_crosses m p q r s hp hq left_one.marked right_one.marked left_one.left (right_of_lem s right_one))
           ∙ swap_tests _ (none_left m q p s)
           ∙ ap (λ (t : Bool). cond t (holds_against m p q r s) false) (sym (right_apex_lem s right_one))
           ∙ sym (cond_yes _ _ (left_apex_lem r left_one ∙ both_first (none_left m p q r) _ n))
@@ -182,7 +182,7 @@ module _ (m : List ℤ) (p q r s : ℕ) where
   compared ea eb ec ed fu fv eu ev = ap₂ le_z (back fu ∙ eu ∙ ap₂ weight ea eb) (back fv ∙ ev ∙ ap₂ weight ec ed)
 
   pub across_has : {x : Set} {b : Bool} → s < 128 → x ≡ set_of (split_mark m p q r) → b ≡ has x s → split_mark m p q r s ≡ b
-  across_has l e h = sym (has-set_lem (split_mark m p q r) s l) ∙ ap (λ (y : Set). has y s) (sym e) ∙ sym h
+  across_has l e h = sym (has-set (split_mark m p q r) s l) ∙ ap (λ (y : Set). has y s) (sym e) ∙ sym h
 
   pub goes_light : lighter m p q r s ≡ true → none_left m q p s ≡ goes_with m p q r s
   unfolding goes_with

@@ -14,7 +14,7 @@ use Rattle.sets.specs.declared.Set.{Set}
 use Rattle.sets.specs.Sets.{set_of, has, both}
 use Rattle.sides.specs.Sides.{is_mark, left_mark, left_set}
 use Rattle.masks.specs.Table.{none_left, empty_set}
-use Rattle.sets.proofs.Laws.Words.{word-empty_lem}
+use Rattle.sets.proofs.Laws.Words.{word_empty}
 use Rattle.sets.proofs.Laws.Sets.{set_words, set_same, both_sets}
 use Rattle.sides.proofs.Laws.{is_mark_lem, left_mark_lem}
 use Rattle.striking.proofs.Tests as tests
@@ -24,13 +24,13 @@ use Rattle.certificates.specs.Rows.{near_mark, near_set, row_at, Rows, candidate
 
 -- ---- what a candidate is
 module _ (m : List ℤ) (K : ℕ → ℕ → Bool) where
-  near-mark_lem : (p i : ℕ) → near_mark m K p i ≡ true → IsMark m i
+  near_mark_lem : (p i : ℕ) → near_mark m K p i ≡ true → IsMark m i
   unfolding near_mark is_mark
-  near-mark_lem p i h = ltb-true i (count m) (both_first (ltb i (count m)) _ (both_second (ltb p (count m)) _ h))
+  near_mark_lem p i h = ltb-true i (count m) (both_first (ltb i (count m)) _ (both_second (ltb p (count m)) _ h))
 
-  near-joined_lem : (p i : ℕ) → near_mark m K p i ≡ true → joined K p i ≡ true
+  near_joined : (p i : ℕ) → near_mark m K p i ≡ true → joined K p i ≡ true
   unfolding near_mark
-  near-joined_lem p i h = go (eqb p i) (both_second (is_mark m i) _ (both_second (is_mark m p) _ h))
+  near_joined p i h = go (eqb p i) (both_second (is_mark m i) _ (both_second (is_mark m p) _ h))
     where
       go : (t : Bool) → cond t false (joined K p i) ≡ true → joined K p i ≡ true
       go true e = not_both e refl
@@ -47,38 +47,38 @@ module _ (m : List ℤ) (K : ℕ → ℕ → Bool) where
     pub left : left_of (mark m a) (mark m b) (mark m i) ≡ true
 
   module _ (p q a b i : ℕ) where
-    near-both_lem : candidate m K p q a b i ≡ true → (near_mark m K p i ≡ true) × (near_mark m K q i ≡ true)
+    near_both : candidate m K p q a b i ≡ true → (near_mark m K p i ≡ true) × (near_mark m K q i ≡ true)
     unfolding candidate both
-    near-both_lem h =
+    near_both h =
         let x = both_first (cond (near_mark m K p i) (near_mark m K q i) false) _ h in
         (both_first (near_mark m K p i) _ x, both_second (near_mark m K p i) _ x)
 
-    pub candidate-mark_lem : candidate m K p q a b i ≡ true → IsMark m i
-    candidate-mark_lem h = near-mark_lem p i (near-both_lem h).0
+    pub candidate_mark : candidate m K p q a b i ≡ true → IsMark m i
+    candidate_mark h = near_mark_lem p i (near_both h).0
 
   module _ (p q a b i : ℕ) (ha : IsMark m a) (hb : IsMark m b) where
     pub candidate_is : candidate m K p q a b i ≡ true → Candidate p q a b i
     unfolding candidate both
     candidate_is h =
-        let n = near-both_lem p q a b i h in
-        let marked = candidate-mark_lem p q a b i h in
+        let n = near_both p q a b i h in
+        let marked = candidate_mark p q a b i h in
         record {
           marked = marked;
-          p_in = near-joined_lem p i n.0;
-          q_in = near-joined_lem q i n.1;
+          p_in = near_joined p i n.0;
+          q_in = near_joined q i n.1;
           left = sym (left_mark_lem m a b i ha hb marked) ∙ both_second (cond (near_mark m K p i) (near_mark m K q i) false) _ h;
         }
 
-    pub is-candidate :
+    pub is_candidate :
         IsMark m p → IsMark m q → IsMark m i → (i ≡ p → ⊥) → (i ≡ q → ⊥) → joined K p i ≡ true → joined K q i ≡ true →
         left_of (mark m a) (mark m b) (mark m i) ≡ true → candidate m K p q a b i ≡ true
     unfolding candidate both
-    is-candidate hp hq hi no-p no-q pi qi l =
+    is_candidate hp hq hi no-p no-q pi qi l =
         tests.both (tests.both (is_near p i hp hi no-p pi) (is_near q i hq hi no-q qi)) (left_mark_lem m a b i ha hb hi ∙ l)
 
 pub right_mark : (m : List ℤ) (K : ℕ → ℕ → Bool) (p q r i : ℕ) → right_candidate m K p q r i ≡ true → IsMark m i
 unfolding right_candidate
-right_mark m K p q r i h = candidate-mark_lem m K p q q p i (both_second (none_left m p q r) _ h)
+right_mark m K p q r i h = candidate_mark m K p q q p i (both_second (none_left m p q r) _ h)
 
 -- ---- the sets
 module _ (m : List ℤ) (K : ℕ → ℕ → Bool) where
@@ -96,13 +96,13 @@ module _ (m : List ℤ) (K : ℕ → ℕ → Bool) where
           ∙ both_sets (near_mark m K p) (near_mark m K q)
 
   -- all of those on the right where no mark lies inside pqr, and none where one does
-  pub right-all :
+  pub right_all :
       (p q r : ℕ) {x : Set} → none_left m p q r ≡ true → x ≡ set_of (candidate m K p q q p) → x ≡ set_of (right_candidate m K p q r)
   unfolding right_candidate
-  right-all p q r e h = h ∙ set_same (candidate m K p q q p) (right_candidate m K p q r) (λ i l. sym (cond_yes _ _ e))
+  right_all p q r e h = h ∙ set_same (candidate m K p q q p) (right_candidate m K p q r) (λ i l. sym (cond_yes _ _ e))
 
   pub right_none : (p q r : ℕ) → none_left m p q r ≡ false → empty_set ≡ set_of (right_candidate m K p q r)
   unfolding set_of right_candidate
   right_none p q r e =
-      set_words (sym (word-empty_lem (right_candidate m K p q r) 0 64 (λ i a b. cond_no _ _ e)))
-      (sym (word-empty_lem (right_candidate m K p q r) 64 64 (λ i a b. cond_no _ _ e)))
+      set_words (sym (word_empty (right_candidate m K p q r) 0 64 (λ i a b. cond_no _ _ e)))
+      (sym (word_empty (right_candidate m K p q r) 64 64 (λ i a b. cond_no _ _ e)))

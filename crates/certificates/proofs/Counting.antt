@@ -24,10 +24,10 @@ module _ (f : ℕ → Bool) (k : ℕ) where
   abbrev Apart : ℕ → Type 0
   Apart j = count_below (k + j) f ≡ count_below k f + count_below j (λ a. f (k + a))
 
-  count-apart_lem : (j : ℕ) → Apart j
+  count_apart : (j : ℕ) → Apart j
   unfolding count_below
-  count-apart_lem zero = rw (add-zero k) (sym (add-zero (count_below k f)))
-  count-apart_lem (suc j) = go (f (k + j)) refl (count-apart_lem j)
+  count_apart zero = rw (add-zero k) (sym (add-zero (count_below k f)))
+  count_apart (suc j) = go (f (k + j)) refl (count_apart j)
     where
       go : (b : Bool) → f (k + j) ≡ b → Apart j → Apart (suc j)
       go true q e = rw add-suc (omega (arith, count_yes f (k + j) q, count_yes (λ a. f (k + a)) j q))
@@ -42,7 +42,7 @@ module _ (m : List ℤ) where
       ap (λ (k : ℕ). count_below (pair_count b) (plate m).inner + k)
       (count_same (λ a. inner_edge m a b) (λ a. (plate m).inner (pair_number a b)) b
       (λ a h. sym (inner_at m a b (record { up = h; marks = l })))) ∙
-      sym (count-apart_lem (plate m).inner (pair_count b) b) ∙ ap (λ (k : ℕ). count_below k (plate m).inner) (sym (pair_count_suc b))
+      sym (count_apart (plate m).inner (pair_count b) b) ∙ ap (λ (k : ℕ). count_below k (plate m).inner) (sym (pair_count_suc b))
 
   pub inner_edges_lem : inner_edges m ≡ system.inner_edges (plate m)
   unfolding inner_edges plate

@@ -14,7 +14,7 @@ use Rattle.plane.proofs.Laws.Tells.{cond_yes}
 use Rattle.certificates.specs.Certificate.{IsCertificate, HasCertificate, IsFirst, fits, first_pick, pick_fitting, pick_right, first_certificate}
 use Rattle.certificates.specs.declared.certificate.Pick.{Pick}
 use Rattle.certificates.specs.declared.certificate.Pick.TheVariants.{Nothing, Apexes}
-use Rattle.certificates.proofs.Rule7.{fits-certificate_lem, certificate-fits_lem}
+use Rattle.certificates.proofs.Rule7.{fits_certificate, certificate_fits}
 
 pub not_nothing : {A : Type 0} {r s : ℕ} → Nothing ≡ Apexes r s → A
 not_nothing e = let z : ◌≡◌ {A = ℕ} 0 1 = cc in absurd (omega arith)
@@ -81,16 +81,16 @@ module _ (m : List ℤ) (K : ℕ → ℕ → Bool) (p q : ℕ) where
 
   unpicked : {r s : ℕ} → IsCertificate m K p q r s → pick_fitting m K p q r s ≡ Nothing → ⊥
   unfolding pick_fitting
-  unpicked c e = not_nothing (sym e ∙ cond_yes _ _ (certificate-fits_lem m K p q c))
+  unpicked c e = not_nothing (sym e ∙ cond_yes _ _ (certificate_fits m K p q c))
 
   -- a row that picks nothing has no certificate
   row_none : {r s : ℕ} → pick_right m K p q r ≡ Nothing → IsCertificate m K p q r s → ⊥
   unfolding pick_right
   row_none {r} {s} e c = unpicked c (none_picked (pick_fitting m K p q r) (count m) e s c.s_mark)
 
-  pub nothing-none_lem : first_certificate m K p q ≡ Nothing → HasCertificate m K p q → ⊥
+  pub nothing_none : first_certificate m K p q ≡ Nothing → HasCertificate m K p q → ⊥
   unfolding first_certificate
-  nothing-none_lem e h = row_none (none_picked (pick_right m K p q) (count m) e h.0 h.2.r_mark) h.2
+  nothing_none e h = row_none (none_picked (pick_right m K p q) (count m) e h.0 h.2.r_mark) h.2
 
   pub found_first : {r s : ℕ} → first_certificate m K p q ≡ Apexes r s → IsFirst m K p q r s
   unfolding first_certificate pick_right
@@ -108,7 +108,7 @@ module _ (m : List ℤ) (K : ℕ → ℕ → Bool) (p q : ℕ) where
               let column-below = column.below in
               record {
                 certificate =
-                    fits-certificate_lem m K p q r s (omega arith) (omega arith)
+                    fits_certificate m K p q r s (omega arith) (omega arith)
                     (subst (λ (k : ℕ). fits m K p q k s ≡ true) is (subst (λ (k : ℕ). fits m K p q row.k k ≡ true) js t.0));
                 smallest_r = λ r' s' c. r_least is r' c (dec_lt r' r);
                 smallest_s = λ s' c. s_least is js s' c (dec_lt s' s);
@@ -139,9 +139,9 @@ first_same there back {r} {s} f =
     }
 
 -- there is only one first
-pub first-unique :
+pub first_unique :
     {m : List ℤ} {K : ℕ → ℕ → Bool} {p q r s r' s' : ℕ} → IsFirst m K p q r s → IsFirst m K p q r' s' → (r ≡ r') × (s ≡ s')
-first-unique {m} {K} {p} {q} {r} {s} {r'} {s'} f g =
+first_unique {m} {K} {p} {q} {r} {s} {r'} {s'} f g =
     let l = f.smallest_r r' s' g.certificate in
     let l' = g.smallest_r r s f.certificate in
     let e : r ≡ r' = omega arith in
@@ -153,13 +153,13 @@ pub first_found : {m : List ℤ} {K : ℕ → ℕ → Bool} {p q r s : ℕ} → 
 first_found {m} {K} {p} {q} {r} {s} f = go (first_certificate m K p q) refl
   where
     go : (x : Pick) → first_certificate m K p q ≡ x → first_certificate m K p q ≡ Apexes r s
-    go Nothing e = absurd (nothing-none_lem m K p q e (r, s, f.certificate))
+    go Nothing e = absurd (nothing_none m K p q e (r, s, f.certificate))
     go (Apexes r' s') e =
-        let u = first-unique (found_first m K p q e) f in
+        let u = first_unique (found_first m K p q e) f in
         e ∙ ap (λ (x : ℕ). Apexes x s') u.0 ∙ ap (Apexes r) u.1
 
-pub none-nothing_lem : (m : List ℤ) (K : ℕ → ℕ → Bool) (p q : ℕ) → (HasCertificate m K p q → ⊥) → first_certificate m K p q ≡ Nothing
-none-nothing_lem m K p q h = go (first_certificate m K p q) refl
+pub none_nothing : (m : List ℤ) (K : ℕ → ℕ → Bool) (p q : ℕ) → (HasCertificate m K p q → ⊥) → first_certificate m K p q ≡ Nothing
+none_nothing m K p q h = go (first_certificate m K p q) refl
   where
     go : (x : Pick) → first_certificate m K p q ≡ x → first_certificate m K p q ≡ Nothing
     go Nothing e = e

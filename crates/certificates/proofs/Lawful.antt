@@ -11,37 +11,37 @@ use Rattle.plane.specs.Marks.{count}
 use Rattle.pairs.specs.Pairs.{pair_count, pair_number, pair_at}
 use Rattle.plane.specs.Edge.{empty_edge}
 use Rattle.plane.specs.Hull.{inner_edge}
-use Rattle.pairs.proofs.Laws.{pair-below_lem, pair_at_numbered}
+use Rattle.pairs.proofs.Laws.{pair_below, pair_at_numbered}
 use Rattle.striking.specs.System.{Within, Lawful}
 use Rattle.striking.proofs.Tests.{not_both, both, both_first, both_second}
 use Rattle.certificates.specs.declared.certificate.Pick.{Pick}
 use Rattle.certificates.specs.declared.certificate.Pick.TheVariants.{Nothing, Apexes}
 use Rattle.certificates.specs.Certificate.{HasCertificate, first_certificate}
 use Rattle.certificates.specs.Plate.{pairs_of, edges_of, is_found, is_pair, empty_pair, inner_pair, certified, cross_pairs, plate}
-use Rattle.certificates.proofs.Rule7.{certificate-more}
-use Rattle.certificates.proofs.First.{nothing-none_lem, found_first}
+use Rattle.certificates.proofs.Rule7.{certificate_more}
+use Rattle.certificates.proofs.First.{nothing_none, found_first}
 use Rattle.plane.proofs.Laws.Cross.{crosses_other, crosses_itself}
 
 -- ---- the test of a pair
-pub pair-mark_lem : (m : List ℤ) (p : Pair) → is_pair m p ≡ true → p.b < count m
+pub pair_mark : (m : List ℤ) (p : Pair) → is_pair m p ≡ true → p.b < count m
 unfolding is_pair
-pair-mark_lem m p h = ltb-true p.b (count m) h
+pair_mark m p h = ltb-true p.b (count m) h
 
 module _ (m : List ℤ) (K : ℕ → ℕ → Bool) (p : Pair) where
-  pub certified-has_lem : certified m K p ≡ true → HasCertificate m K p.a p.b
+  pub certified_has : certified m K p ≡ true → HasCertificate m K p.a p.b
   unfolding certified is_found
-  certified-has_lem h = go (first_certificate m K p.a p.b) refl h
+  certified_has h = go (first_certificate m K p.a p.b) refl h
     where
       go : (x : Pick) → first_certificate m K p.a p.b ≡ x → is_found x ≡ true → HasCertificate m K p.a p.b
       go Nothing e t = not_both t refl
       go (Apexes r s) e t = (r, s, (found_first m K p.a p.b e).certificate)
 
-  pub has-certified_lem : HasCertificate m K p.a p.b → certified m K p ≡ true
+  pub has_certified : HasCertificate m K p.a p.b → certified m K p ≡ true
   unfolding certified is_found
-  has-certified_lem h = go (first_certificate m K p.a p.b) refl
+  has_certified h = go (first_certificate m K p.a p.b) refl
     where
       go : (x : Pick) → first_certificate m K p.a p.b ≡ x → is_found x ≡ true
-      go Nothing e = absurd (nothing-none_lem m K p.a p.b e h)
+      go Nothing e = absurd (nothing_none m K p.a p.b e h)
       go (Apexes r s) e = refl
 
 -- ---- the laws
@@ -51,27 +51,27 @@ edges_more m S S' w a b h =
     let i = pair_number a b in
     both (w i (both_first (S i) (empty_edge m a b) h)) (both_second (S i) (empty_edge m a b) h)
 
-inner-empty_lem : (m : List ℤ) (p : Pair) → inner_pair m p ≡ true → empty_pair m p ≡ true
+inner_empty : (m : List ℤ) (p : Pair) → inner_pair m p ≡ true → empty_pair m p ≡ true
 unfolding inner_pair empty_pair inner_edge
-inner-empty_lem m p h = both (both_first (is_pair m p) _ h) (both_first (empty_edge m p.a p.b) _ (both_second (is_pair m p) _ h))
+inner_empty m p h = both (both_first (is_pair m p) _ h) (both_first (empty_edge m p.a p.b) _ (both_second (is_pair m p) _ h))
 
 pub lawful : (m : List ℤ) → Lawful (plate m)
 unfolding plate empty_pair cross_pairs
 lawful m =
     record {
-      edges-below_lem = λ i h. below i (pair-mark_lem m (pair_at i) (both_first (is_pair m (pair_at i)) _ h));
-      inner_are_edges = λ i h. inner-empty_lem m (pair_at i) h;
+      edges_below = λ i h. below i (pair_mark m (pair_at i) (both_first (is_pair m (pair_at i)) _ h));
+      inner_are_edges = λ i h. inner_empty m (pair_at i) h;
       cross_symmetric = λ i j h. sym (crosses_other _ _ _ _) ∙ h;
       cross_not_itself = λ i. crosses_itself _ _;
-      vouched_grows = λ S S' w i h. more S S' w (pair_at i) (certified-has_lem m (edges_of m S) (pair_at i) h);
+      vouched_grows = λ S S' w i h. more S S' w (pair_at i) (certified_has m (edges_of m S) (pair_at i) h);
     }
   where
     below : (i : ℕ) → (pair_at i).b < count m → i < pair_count (count m)
     below i l =
         let n = pair_at_numbered i in
-        subst (λ (k : ℕ). k < pair_count (count m)) n.number (pair-below_lem (pair_at i).a (pair_at i).b (count m) n.up l)
+        subst (λ (k : ℕ). k < pair_count (count m)) n.number (pair_below (pair_at i).a (pair_at i).b (count m) n.up l)
 
     more :
         (S S' : ℕ → Bool) → Within S S' → (p : Pair) → HasCertificate m (edges_of m S) p.a p.b →
         certified m (edges_of m S') p ≡ true
-    more S S' w p h = has-certified_lem m (edges_of m S') p (h.0, h.1, certificate-more (edges_more m S S' w) h.2)
+    more S S' w p h = has_certified m (edges_of m S') p (h.0, h.1, certificate_more (edges_more m S S' w) h.2)

@@ -21,8 +21,8 @@ use Rattle.sets.specs.declared.Set.{Set}
 use Rattle.sets.specs.Sets.{set_of, has, including, without}
 use Rattle.sides.specs.Sides.{is_mark}
 use Rattle.sets.proofs.Laws.Numbers.{split}
-use Rattle.sets.proofs.Laws.Words.{word-empty_lem, without_at, without_off}
-use Rattle.sets.proofs.Laws.Sets.{set_words, has-set_lem, set_same, including_at, including_off}
+use Rattle.sets.proofs.Laws.Words.{word_empty, without_at, without_off}
+use Rattle.sets.proofs.Laws.Sets.{set_words, has-set, set_same, including_at, including_off}
 use Rattle.sides.proofs.Laws.{is_mark_lem}
 use Rattle.striking.specs.Status.{remaining}
 use Rattle.striking.proofs.Tests.{not_both, both, both_second}
@@ -59,9 +59,9 @@ module _ (d : List ℕ) (p : ℕ) (s : Set) where
 
 -- ---- the edge (a, b) in the rows
 module _ (m : List ℤ) (K : ℕ → ℕ → Bool) (a b : ℕ) (h : a < b) where
-  joined-up_lem : joined K a b ≡ K a b
+  joined_up : joined K a b ≡ K a b
   unfolding joined
-  joined-up_lem = cond_yes _ _ (lt-ltb a b h)
+  joined_up = cond_yes _ _ (lt-ltb a b h)
 
   joined_down : joined K b a ≡ K a b
   unfolding joined
@@ -72,7 +72,7 @@ module _ (m : List ℤ) (K : ℕ → ℕ → Bool) (a b : ℕ) (h : a < b) where
     unfolding near_mark
     near_up =
         cond_yes _ _ (is_mark_lem m a (omega arith)) ∙ cond_yes _ _ (is_mark_lem m b hb) ∙ cond_no _ _ (ne_eqb a b (λ e. omega arith)) ∙
-        joined-up_lem
+        joined_up
 
     pub near_down : near_mark m K b a ≡ K a b
     unfolding near_mark
@@ -94,7 +94,7 @@ unfolding near_mark
 near_same m K K' p i f g = ap (λ (t : Bool). cond (is_mark m p) (cond (is_mark m i) t false) false) (go (dec_lt p i) (dec_lt i p))
   where
     go : Dec (p < i) → Dec (i < p) → cond (eqb p i) false (joined K p i) ≡ cond (eqb p i) false (joined K' p i)
-    go (yes l) x = ap (cond (eqb p i) false) (joined-up_lem m K p i l ∙ f l ∙ sym (joined-up_lem m K' p i l))
+    go (yes l) x = ap (cond (eqb p i) false) (joined_up m K p i l ∙ f l ∙ sym (joined_up m K' p i l))
     go (no x) (yes l) = ap (cond (eqb p i) false) (joined_down m K i p l ∙ g l ∙ sym (joined_down m K' i p l))
     go (no x) (no y) = let e = eq-eqb p i (omega arith) in cond_yes _ _ e ∙ sym (cond_yes _ _ e)
 
@@ -117,22 +117,22 @@ module _ (m : List ℤ) (K K' : ℕ → ℕ → Bool) (a b : ℕ) (v : Bool) (h 
   -- G takes a test and a number, and says v of that number alone
   module _ (G : (ℕ → Bool) → ℕ → ℕ → Bool) (G-at : (f : ℕ → Bool) (k i : ℕ) → i ≡ k → G f k i ≡ v)
       (G-off : (f : ℕ → Bool) (k i : ℕ) → (i ≡ k → ⊥) → G f k i ≡ f i) where
-    row-edited :
+    row_edited :
         (p k : ℕ) (x s : Set) → x ≡ near_set m K p → s ≡ set_of (G (has x) k) → near_mark m K' p k ≡ v →
         ((i : ℕ) → (i ≡ k → ⊥) → near_mark m K p i ≡ near_mark m K' p i) → s ≡ near_set m K' p
     unfolding near_set
-    row-edited p k x s ex es ek f = es ∙ set_same (G (has x) k) (near_mark m K' p) (λ i l. go i l (ℕ_discrete i k))
+    row_edited p k x s ex es ek f = es ∙ set_same (G (has x) k) (near_mark m K' p) (λ i l. go i l (ℕ_discrete i k))
       where
         go : (i : ℕ) → i < 128 → Dec (i ≡ k) → G (has x) k i ≡ near_mark m K' p i
         go i l (yes e) = G-at (has x) k i e ∙ sym ek ∙ ap (near_mark m K' p) (sym e)
-        go i l (no n) = G-off (has x) k i n ∙ ap (λ (y : Set). has y i) ex ∙ has-set_lem (near_mark m K p) i l ∙ f i n
+        go i l (no n) = G-off (has x) k i n ∙ ap (λ (y : Set). has y i) ex ∙ has-set (near_mark m K p) i l ∙ f i n
 
     -- it is put to work on row a, then on row b
-    rows-edited :
+    rows_edited :
         {d d₁ d₂ : List ℕ} {x y s t : Set} → b < 128 → Rows m K d → x ≡ row_at d a → s ≡ set_of (G (has x) b) → d₁ ≡ put_row d a s →
         y ≡ row_at d₁ b → t ≡ set_of (G (has y) a) → d₂ ≡ put_row d₁ b t → Rows m K' d₂
     unfolding near_set
-    rows-edited {d} {d₁} {d₂} {x} {y} {s} {t} small r ex es e₁ ey et e₂ =
+    rows_edited {d} {d₁} {d₂} {x} {y} {s} {t} small r ex es e₁ ey et e₂ =
         record { size = ap length e₂ ∙ put_size d₁ b t ∙ size₁; each = λ p l. row p l (ℕ_discrete p a) (ℕ_discrete p b) }
       where
         size₁ : length d₁ ≡ 256
@@ -140,12 +140,12 @@ module _ (m : List ℤ) (K K' : ℕ → ℕ → Bool) (a b : ℕ) (v : Bool) (h 
 
         row_a : s ≡ near_set m K' a
         row_a =
-            row-edited a b x s (ex ∙ r.each a (omega arith)) es (near_up m K' a b h hb ∙ at)
+            row_edited a b x s (ex ∙ r.each a (omega arith)) es (near_up m K' a b h hb ∙ at)
             (λ i n. near_off a i (λ e. n) (λ e. absurd (let z : ⊥ = omega arith in z)))
 
         row_b : t ≡ near_set m K' b
         row_b =
-            row-edited b a y t
+            row_edited b a y t
             (ey ∙ ap (λ (k : List ℕ). row_at k b) e₁ ∙ put_elsewhere d a s b (λ e. omega arith) ∙ r.each b small) et
             (near_down m K' a b h hb ∙ at)
             (λ i n. near_off b i (λ e. absurd (let z : ⊥ = omega arith in z)) (λ e. n))
@@ -179,14 +179,14 @@ module _ (m : List ℤ) (S : ℕ → Bool) (a b : ℕ) where
   edges_yes e f = both e f
 
 -- ---- the byte of (a, b) becomes 0
-pub rows-parted :
+pub rows_parted :
     {m : List ℤ} {d d₁ d₂ : List ℕ} {x y s t : Set} (st : List ℕ) (a b : ℕ) → Plate m → a < b → IsMark m b →
     Rows m (edges_of m (remaining st)) d → x ≡ row_at d a → s ≡ set_of (without (has x) b) → d₁ ≡ put_row d a s →
     y ≡ row_at d₁ b → t ≡ set_of (without (has y) a) → d₂ ≡ put_row d₁ b t →
     Rows m (edges_of m (remaining (set st (pair_number a b) 0))) d₂
-rows-parted {m} st a b plate h hb r =
+rows_parted {m} st a b plate h hb r =
     let few = plate.few in
-    rows-edited m (edges_of m (remaining st)) (edges_of m (remaining st')) a b false h hb
+    rows_edited m (edges_of m (remaining st)) (edges_of m (remaining st')) a b false h hb
     (edges_none m (remaining st') a b (struck_gone st (pair_number a b)))
     (λ c e l n. edges_same m (remaining st) (remaining st') c e
     (sym (others_stay st (pair_number a b) (pair_number c e) (other_number a b c e h l n))))
@@ -239,14 +239,14 @@ module _ {m : List ℤ} {d : List ℕ} (st : List ℕ) (a b i : ℕ) (h : a < b)
           sym (edges_none m (after st i) c f (ap (after st i) (q ∙ e) ∙ after_at ∙ remaining_not st i z))
       go c f l (no n) = edges_same m (before st i) (after st i) c f (below_next (remaining st) i (pair_number c f) n)
 
-  pub rows-joined :
+  pub rows_joined :
       {d₁ d₂ : List ℕ} {x y s t : Set} → Plate m → Clean m st → (get_or st i 0 ≡ 0 → ⊥) → x ≡ row_at d a →
       s ≡ set_of (including (has x) b) → d₁ ≡ put_row d a s → y ≡ row_at d₁ b → t ≡ set_of (including (has y) a) →
       d₂ ≡ put_row d₁ b t → Rows m (edges_of m (after st i)) d₂
-  rows-joined plate clean n =
+  rows_joined plate clean n =
       let few = plate.few in
       let y = remaining_yes st i n in
-      rows-edited m (edges_of m (before st i)) (edges_of m (after st i)) a b true h hb
+      rows_edited m (edges_of m (before st i)) (edges_of m (after st i)) a b true h hb
       (edges_yes m (after st i) a b (after_at ∙ y) (clean.edges a b h hb (ap (remaining st) (sym e) ∙ y)))
       other_pair including including_at including_off (omega arith) r
 
@@ -275,8 +275,8 @@ rows_start {m} S e = subst (Rows m (edges_of m (below 0 S))) (sym e) (record { s
     row : (p : ℕ) → p < 128 → row_at (replicate 256 0) p ≡ near_set m (edges_of m (below 0 S)) p
     row p l =
         set_words
-        (get_or-replicate 256 (p * 2) 0 0 (omega arith) ∙ sym (word-empty_lem _ 0 64 (λ i _ _. near_none m _ none p i)))
-        (get_or-replicate 256 (p * 2 + 1) 0 0 (omega arith) ∙ sym (word-empty_lem _ 64 64 (λ i _ _. near_none m _ none p i)))
+        (get_or-replicate 256 (p * 2) 0 0 (omega arith) ∙ sym (word_empty _ 0 64 (λ i _ _. near_none m _ none p i)))
+        (get_or-replicate 256 (p * 2 + 1) 0 0 (omega arith) ∙ sym (word_empty _ 64 64 (λ i _ _. near_none m _ none p i)))
 
 pub rows_end :
     {m : List ℤ} {d : List ℕ} (st : List ℕ) (i : ℕ) → length st ≤ i → Rows m (edges_of m (below i (remaining st))) d →

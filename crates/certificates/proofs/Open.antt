@@ -13,7 +13,7 @@ use Rattle.plane.specs.Marks.{count, IsMark}
 use Rattle.sets.specs.declared.Set.{Set}
 use Rattle.sets.specs.Sets.{set_of, has, without}
 use Rattle.sets.proofs.Laws.Words.{without_at, without_off}
-use Rattle.sets.proofs.Laws.Sets.{has-set_lem}
+use Rattle.sets.proofs.Laws.Sets.{has-set}
 use Rattle.sets.proofs.Laws.Members.{first_member, first_before, has_rest, next_later}
 use Rattle.striking.proofs.Tests.{not_both}
 use Rattle.certificates.specs.declared.certificate.Pick.{Pick}
@@ -25,14 +25,14 @@ pub record Open (m : List ℤ) (s : Set) (g : ℕ → Bool) (f : ℕ → Pick) :
   pub chance : (i : ℕ) → i < 128 → has s i ≡ true → g i ≡ true
   pub tried : (i : ℕ) → IsMark m i → has s i ≡ false → f i ≡ Nothing
 
-pub open-start :
+pub open_start :
     {m : List ℤ} {s : Set} (g : ℕ → Bool) (f : ℕ → Pick) → count m ≤ 128 → s ≡ set_of g →
     ((i : ℕ) → IsMark m i → g i ≡ false → f i ≡ Nothing) → Open m s g f
-open-start {m} {s} g f few e h =
+open_start {m} {s} g f few e h =
     record { chance = λ i l t. sym (member i l) ∙ t; tried = λ i l t. h i l (sym (member i (omega arith)) ∙ t) }
   where
     member : (i : ℕ) → i < 128 → has s i ≡ g i
-    member i l = ap (λ (x : Set). has x i) e ∙ has-set_lem g i l
+    member i l = ap (λ (x : Set). has x i) e ∙ has-set g i l
 
 -- k is the first member
 module _ {m : List ℤ} {s : Set} {k : ℕ} {g : ℕ → Bool} {f : ℕ → Pick} (o : Open m s g f) (e : k ≡ first_to 128 (has s)) where
@@ -61,7 +61,7 @@ module _ {m : List ℤ} {s : Set} {k : ℕ} {g : ℕ → Bool} {f : ℕ → Pick
       gone i l t (no d) = o.tried i l (sym (without_off (has s) k i d) ∙ sym (rest i (omega arith)) ∙ t)
 
 -- a measure: the next member comes later
-pub open-less :
+pub open_less :
     (s s' : Set) {k k' : ℕ} → k ≡ first_to 128 (has s) → k < 128 → s' ≡ set_of (without (has s) k) → k' ≡ first_to 128 (has s') →
     128 - k' < 128 - k
-open-less s s' {k} {k'} e l q e' = let n = next_later s k e s' q k' e' l in omega arith
+open_less s s' {k} {k'} e l q e' = let n = next_later s k e s' q k' e' l in omega arith

@@ -7,7 +7,7 @@ use lib.IntN.{ℤ}
 use Rattle.pairs.specs.declared.Pair.{Pair}
 use Rattle.plane.specs.Marks.{count, IsMark}
 use Rattle.pairs.specs.Pairs.{pair_count, pair_number, next_pair, pair_at}
-use Rattle.pairs.proofs.Laws.{pair_at_numbered, pair_at-below_lem}
+use Rattle.pairs.proofs.Laws.{pair_at_numbered, pair_at_below}
 
 pub record Place (m : List ℤ) (i : ℕ) (p : Pair) : Type 0 where
   pub up : p.a < p.b
@@ -17,7 +17,7 @@ pub record Place (m : List ℤ) (i : ℕ) (p : Pair) : Type 0 where
 pub place : (m : List ℤ) (i : ℕ) {p : Pair} → p ≡ pair_at i → i < pair_count (count m) → Place m i p
 place m i {p} e l =
     subst (Place m i) (sym e)
-    (let n = pair_at_numbered i in record { up = n.up; mark = pair_at-below_lem (count m) i l; number = sym n.number })
+    (let n = pair_at_numbered i in record { up = n.up; mark = pair_at_below (count m) i l; number = sym n.number })
 
 pub pair_at_next : (i : ℕ) {p q : Pair} → q ≡ next_pair p → p ≡ pair_at i → q ≡ pair_at (i + 1)
 unfolding pair_at

@@ -10,13 +10,13 @@ use Rattle.plane.proofs.Laws.Tells.{cond_yes}
 use Rattle.striking.proofs.Tests.{both, both_first}
 
 module _ (m : List ℤ) (a b : ℕ) where
-  pub hull-empty_lem : hull_edge m a b ≡ true → empty_edge m a b ≡ true
+  pub hull_empty : hull_edge m a b ≡ true → empty_edge m a b ≡ true
   unfolding hull_edge
-  hull-empty_lem h = both_first (empty_edge m a b) _ h
+  hull_empty h = both_first (empty_edge m a b) _ h
 
-  pub inner-empty_lem : inner_edge m a b ≡ true → empty_edge m a b ≡ true
+  pub inner_empty : inner_edge m a b ≡ true → empty_edge m a b ≡ true
   unfolding inner_edge
-  inner-empty_lem h = both_first (empty_edge m a b) _ h
+  inner_empty h = both_first (empty_edge m a b) _ h
 
   pub hull_not_inner : hull_edge m a b ≡ true → inner_edge m a b ≡ false
   unfolding hull_edge inner_edge
@@ -35,6 +35,6 @@ module _ (m : List ℤ) (a b : ℕ) where
       go true false h = refl
       go false o h = refl
 
-  pub rest-inner_lem : empty_edge m a b ≡ true → hull_edge m a b ≡ false → inner_edge m a b ≡ true
+  pub rest_inner : empty_edge m a b ≡ true → hull_edge m a b ≡ false → inner_edge m a b ≡ true
   unfolding inner_edge hull_edge
-  rest-inner_lem e h = both e (ap not (sym (cond_yes (one_sided m a b) false e) ∙ h))
+  rest_inner e h = both e (ap not (sym (cond_yes (one_sided m a b) false e) ∙ h))

@@ -61,9 +61,9 @@ module _ (m : List ℤ) (K : ℕ → ℕ → Bool) (p q : ℕ) where
   unfolding apex
   is_apex r h k t = both h (both k t)
 
-  pub fits-certificate_lem : (r s : ℕ) → IsMark m r → IsMark m s → fits m K p q r s ≡ true → IsCertificate m K p q r s
+  pub fits_certificate : (r s : ℕ) → IsMark m r → IsMark m s → fits m K p q r s ≡ true → IsCertificate m K p q r s
   unfolding fits left_apex right_apex
-  fits-certificate_lem r s r-in s-in h =
+  fits_certificate r s r-in s-in h =
       let l = both_first (left_apex m K p q r) _ h in
       let h' = both_second (left_apex m K p q r) _ h in
       let t = both_first (right_apex m K p q s) _ h' in
@@ -85,9 +85,9 @@ module _ (m : List ℤ) (K : ℕ → ℕ → Bool) (p q : ℕ) where
         light = holds_light m p q r s (both_second (right_apex m K p q s) _ h');
       }
 
-  pub certificate-fits_lem : {r s : ℕ} → IsCertificate m K p q r s → fits m K p q r s ≡ true
+  pub certificate_fits : {r s : ℕ} → IsCertificate m K p q r s → fits m K p q r s ≡ true
   unfolding fits left_apex right_apex
-  certificate-fits_lem {r} {s} c =
+  certificate_fits {r} {s} c =
       both (both c.r_left (is_apex r c.pr_in c.qr_in c.pqr_empty))
       (both (both c.s_right (is_apex s c.ps_in c.qs_in c.pqs_empty)) (light_holds m p q r s c.light))
 
@@ -100,10 +100,10 @@ left_apart m p q r h = (
 
 -- ---- from one set to another
 -- the four sides are all that a certificate asks of the set
-pub certificate-sides :
+pub certificate_sides :
     {m : List ℤ} {K K' : ℕ → ℕ → Bool} {p q r s : ℕ} → IsCertificate m K p q r s →
     joined K' p r ≡ true → joined K' q r ≡ true → joined K' p s ≡ true → joined K' q s ≡ true → IsCertificate m K' p q r s
-certificate-sides c pr qr ps qs =
+certificate_sides c pr qr ps qs =
     record {
       r_mark = c.r_mark;
       s_mark = c.s_mark;
@@ -119,12 +119,12 @@ certificate-sides c pr qr ps qs =
     }
 
 -- to a larger set
-pub certificate-more :
+pub certificate_more :
     {m : List ℤ} {K K' : ℕ → ℕ → Bool} → ((a b : ℕ) → K a b ≡ true → K' a b ≡ true) →
     {p q r s : ℕ} → IsCertificate m K p q r s → IsCertificate m K' p q r s
 unfolding joined
-certificate-more {m} {K} {K'} w {p} {q} {r} {s} c =
-    certificate-sides c (more p r c.pr_in) (more q r c.qr_in) (more p s c.ps_in) (more q s c.qs_in)
+certificate_more {m} {K} {K'} w {p} {q} {r} {s} c =
+    certificate_sides c (more p r c.pr_in) (more q r c.qr_in) (more p s c.ps_in) (more q s c.qs_in)
   where
     more : (u v : ℕ) → joined K u v ≡ true → joined K' u v ≡ true
     more u v h = go (ltb u v) h
@@ -138,11 +138,11 @@ module _ (m : List ℤ) (K K' : ℕ → ℕ → Bool) (p q : ℕ) (p_in : IsMark
   abbrev pub Besides : Type 0
   Besides = (a b : ℕ) → IsPair m a b → (a ≡ p → b ≡ q → ⊥) → K a b ≡ true → K' a b ≡ true
 
-  joined-besides :
+  joined_besides :
       Besides → (u r : ℕ) → IsMark m u → IsMark m r → (u ≡ p) ⊎ (u ≡ q) → (r ≡ p → ⊥) → (r ≡ q → ⊥) →
       joined K u r ≡ true → joined K' u r ≡ true
   unfolding joined
-  joined-besides w u r u-in r-in end no-p no-q h = go (dec_lt u r)
+  joined_besides w u r u-in r-in end no-p no-q h = go (dec_lt u r)
     where
       other : (u ≡ p) ⊎ (u ≡ q) → u ≡ r → ⊥
       other (inl e) f = no-p (let z : r ≡ p = omega arith in z)
@@ -159,11 +159,11 @@ module _ (m : List ℤ) (K K' : ℕ → ℕ → Bool) (p q : ℕ) (p_in : IsMark
   certificate_besides w {r} {s} c =
       let l = left_apart m p q r (tells_yes left_of_tells c.r_left) in
       let t = left_apart m q p s (tells_yes right_of_tells c.s_right) in
-      certificate-sides c
-      (joined-besides w p r p_in c.r_mark (inl refl) l.0 l.1 c.pr_in)
-      (joined-besides w q r q_in c.r_mark (inr refl) l.0 l.1 c.qr_in)
-      (joined-besides w p s p_in c.s_mark (inl refl) t.1 t.0 c.ps_in)
-      (joined-besides w q s q_in c.s_mark (inr refl) t.1 t.0 c.qs_in)
+      certificate_sides c
+      (joined_besides w p r p_in c.r_mark (inl refl) l.0 l.1 c.pr_in)
+      (joined_besides w q r q_in c.r_mark (inr refl) l.0 l.1 c.qr_in)
+      (joined_besides w p s p_in c.s_mark (inl refl) t.1 t.0 c.ps_in)
+      (joined_besides w q s q_in c.s_mark (inr refl) t.1 t.0 c.qs_in)
 
   pub has_besides : Besides → HasCertificate m K p q → HasCertificate m K' p q
   has_besides w h = (h.0, h.1, certificate_besides w h.2)

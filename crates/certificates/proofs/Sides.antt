@@ -15,8 +15,8 @@ use Rattle.certificates.specs.declared.certificate.Pick.{Pick}
 use Rattle.certificates.specs.declared.certificate.Pick.TheVariants.{Nothing, Apexes}
 use Rattle.certificates.specs.Certificate.{joined, IsCertificate, first_certificate}
 use Rattle.certificates.specs.Plate.{pairs_of, edges_of}
-use Rattle.certificates.proofs.Rule7.{certificate-sides, certificate-more}
-use Rattle.certificates.proofs.First.{nothing-none_lem, none-nothing_lem, found_first, first_found, first_same}
+use Rattle.certificates.proofs.Rule7.{certificate_sides, certificate_more}
+use Rattle.certificates.proofs.First.{nothing_none, none_nothing, found_first, first_found, first_same}
 use Rattle.plane.proofs.Laws.Edge.{empty_edge_swap}
 
 -- ---- the sides of an empty triangle
@@ -35,9 +35,9 @@ triangle_sides m p q r h = go (on_line (mark m p) (mark m q) (mark m r)) h
 
 -- ---- so their emptiness needs no test of its own
 module _ (m : List ℤ) (S : ℕ → Bool) where
-  joined-edges_lem : (u r : ℕ) → empty_edge m u r ≡ true → joined (pairs_of S) u r ≡ true → joined (edges_of m S) u r ≡ true
+  joined_edges : (u r : ℕ) → empty_edge m u r ≡ true → joined (pairs_of S) u r ≡ true → joined (edges_of m S) u r ≡ true
   unfolding joined edges_of
-  joined-edges_lem u r e h = go (ltb u r) h
+  joined_edges u r e h = go (ltb u r) h
     where
       go : (t : Bool) → cond t (pairs_of S u r) (pairs_of S r u) ≡ true → cond t (edges_of m S u r) (edges_of m S r u) ≡ true
       go true h = both h e
@@ -48,23 +48,23 @@ module _ (m : List ℤ) (S : ℕ → Bool) where
   edges_pairs a b h = both_first (pairs_of S a b) _ h
 
   module _ {p q r s : ℕ} where
-    pub certificate-edges_lem : IsCertificate m (pairs_of S) p q r s → IsCertificate m (edges_of m S) p q r s
-    certificate-edges_lem c =
+    pub certificate_edges : IsCertificate m (pairs_of S) p q r s → IsCertificate m (edges_of m S) p q r s
+    certificate_edges c =
         let x = triangle_sides m p q r c.pqr_empty in
         let y = triangle_sides m p q s c.pqs_empty in
-        certificate-sides c
-        (joined-edges_lem p r x.0 c.pr_in) (joined-edges_lem q r x.1 c.qr_in)
-        (joined-edges_lem p s y.0 c.ps_in) (joined-edges_lem q s y.1 c.qs_in)
+        certificate_sides c
+        (joined_edges p r x.0 c.pr_in) (joined_edges q r x.1 c.qr_in)
+        (joined_edges p s y.0 c.ps_in) (joined_edges q s y.1 c.qs_in)
 
     pub certificate_pairs : IsCertificate m (edges_of m S) p q r s → IsCertificate m (pairs_of S) p q r s
-    certificate_pairs c = certificate-more edges_pairs c
+    certificate_pairs c = certificate_more edges_pairs c
 
   pub first_edges : (p q : ℕ) → first_certificate m (pairs_of S) p q ≡ first_certificate m (edges_of m S) p q
   first_edges p q = go (first_certificate m (pairs_of S) p q) refl
     where
       go : (x : Pick) → first_certificate m (pairs_of S) p q ≡ x → x ≡ first_certificate m (edges_of m S) p q
       go Nothing e =
-          sym (none-nothing_lem m (edges_of m S) p q (λ h. nothing-none_lem m (pairs_of S) p q e (h.0, h.1, certificate_pairs h.2)))
+          sym (none_nothing m (edges_of m S) p q (λ h. nothing_none m (pairs_of S) p q e (h.0, h.1, certificate_pairs h.2)))
       go (Apexes r s) e =
           let f = found_first m (pairs_of S) p q e in
-          sym (first_found (first_same (λ r' s' c. certificate-edges_lem c) (λ r' s' c. certificate_pairs c) f))
+          sym (first_found (first_same (λ r' s' c. certificate_edges c) (λ r' s' c. certificate_pairs c) f))

@@ -25,9 +25,9 @@ use Rattle.certificates.specs.Certificate.{joined, crossing, HasCertificate, hol
 use Rattle.certificates.specs.Certificate.{first_pick, pick_fitting, pick_right, first_certificate}
 use Rattle.certificates.specs.Plate.{is_found, certified}
 use Rattle.certificates.specs.Rule9.{IsPair, Kept, Triangulation, LocallyMinimal, Supported, Largest}
-use Rattle.certificates.proofs.Rule5.{inner-empty_lem}
-use Rattle.certificates.proofs.Rule7.{certificate-more}
-use Rattle.certificates.proofs.Lawful.{certified-has_lem, has-certified_lem}
+use Rattle.certificates.proofs.Rule5.{inner_empty}
+use Rattle.certificates.proofs.Rule7.{certificate_more}
+use Rattle.certificates.proofs.Lawful.{certified_has, has_certified}
 
 -- ---- a test of every pair
 unfoldable pub every_pair : List ℤ → (ℕ → ℕ → Bool) → Bool
@@ -75,7 +75,7 @@ module _ (m : List ℤ) (K : ℕ → ℕ → Bool) where
   certified_by : certifies_inner ≡ true → (a b : ℕ) → Kept m K a b → inner_edge m a b ≡ true → HasCertificate m K a b
   unfolding certifies_inner
   certified_by h a b k i =
-      certified-has_lem m K (record { a = a; b = b })
+      certified_has m K (record { a = a; b = b })
       (then_yes (inner_edge m a b) _ (then_yes (K a b) _ (every_yes m _ h k.pair) k.kept) i)
 
   -- a triangulation, where (c, d) is kept
@@ -126,7 +126,7 @@ module _ (m : List ℤ) (K : ℕ → ℕ → Bool) where
       go s a b k false p false q t = t
       go s a b k false p true q t =
           let c = s.certified a b k q in
-          not_both (has-certified_lem m (λ c d. true) (record { a = a; b = b }) (c.0, c.1, certificate-more (λ i j h. refl) c.2))
+          not_both (has_certified m (λ c d. true) (record { a = a; b = b }) (c.0, c.1, certificate_more (λ i j h. refl) c.2))
           (not-true _ t)
 
 -- ---- the plates
@@ -196,7 +196,7 @@ kite_other = triangulation_by kite (all_but 1 3) 0 2 (kept_02 kite (omega arith)
 pub kite_other_not_minimal : LocallyMinimal kite (all_but 1 3) → ⊥
 kite_other_not_minimal l =
     not_both
-    (has-certified_lem kite (all_but 1 3) (record { a = 0; b = 2 })
+    (has_certified kite (all_but 1 3) (record { a = 0; b = 2 })
     (l.certified 0 2 (kept_02 kite (omega arith)) computed.kite_02_inner))
     computed.kite_02_uncertified
 
@@ -208,7 +208,7 @@ kite_largest =
 
 pub kite_left_out : (empty_edge kite 0 2 ≡ true) × (all_but 0 2 0 2 ≡ false)
 unfolding all_but
-kite_left_out = (inner-empty_lem kite 0 2 computed.kite_02_inner, refl)
+kite_left_out = (inner_empty kite 0 2 computed.kite_02_inner, refl)
 
 -- ---- the square: its diagonals tie, and with either it is locally minimal
 pub square_minimal : LocallyMinimal square (all_but 0 2)

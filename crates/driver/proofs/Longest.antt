@@ -17,9 +17,9 @@ use Rattle.certificates.proofs.Counting.{inner_edges_lem}
 use Rattle.skeleton.proofs.Theorems.{never_pauses}
 use Rattle.driver.specs.Driver.{longest_budget}
 
-few-inner_lem : (m : List ℤ) → inner_edges m ≤ pair_count (count m)
+few_inner : (m : List ℤ) → inner_edges m ≤ pair_count (count m)
 unfolding plate
-few-inner_lem m = subst (λ (k : ℕ). k ≤ pair_count (count m)) (sym (inner_edges_lem m)) (count_small (plate m).inner (plate m).size)
+few_inner m = subst (λ (k : ℕ). k ≤ pair_count (count m)) (sym (inner_edges_lem m)) (count_small (plate m).inner (plate m).size)
 
 ample_grows : (i k : ℕ) → i ≤ k → i * (i + 1) / 2 ≤ k * (k + 1) / 2
 ample_grows i k l =
@@ -29,9 +29,9 @@ ample_grows i k l =
 
 pub longest_ample : (m : List ℤ) → ample m ≤ longest_budget (count m)
 unfolding ample longest_budget
-longest_ample m = ample_grows (inner_edges m) (pair_count (count m)) (few-inner_lem m)
+longest_ample m = ample_grows (inner_edges m) (pair_count (count m)) (few_inner m)
 
 -- "With m inner edges a search ends within m(m+1)/2 examinations": under this budget no plate of so many marks pauses.
-pub longest-never-pauses :
+pub longest_never_pauses :
     (m : List ℤ) (st : List ℕ) (budget : ℕ) → longest_budget (count m) ≤ budget → (e : ℕ) → outcome_of m st budget ≡ Paused e → ⊥
-longest-never-pauses m st budget l = never_pauses m st budget (le_trans (longest_ample m) l)
+longest_never_pauses m st budget l = never_pauses m st budget (le_trans (longest_ample m) l)

@@ -2,8 +2,6 @@
 use mathlib.Core.Path.{◌≡◌, refl, sym, ap, ap₂, ◌∙◌, subst}
 use mathlib.Core.List.{List, [], ◌∷◌, ◌++◌}
 use mathlib.Core.Logic.{⊎_elim}
-use types.Run.{OneOf}
-use denote.Enum.Declared.{tag_of}
 use mathlib.Core.Bool.{Bool, true, false, cond}
 use Prim.Native.Nat.{ℕ, ◌+◌, ◌*◌, ◌/◌, ◌≤◌, ◌<◌}
 use native.Mathlib.Nat.{le_trans, mul-le-mul_left, mul-le-mul_right}
@@ -17,8 +15,7 @@ use Rattle.pairs.proofs.Laws.{pair_count_small}
 use Rattle.plane.proofs.Laws.Tells.{cond_yes, cond_no}
 use Rattle.skeleton.specs.declared.request.Reply.{Reply}
 use Rattle.skeleton.specs.declared.request.Reply.TheVariants.{Hull, NotEmpty, Certified, Uncertified}
-use Rattle.skeleton.specs.contracts.request.Reply as reply
-use Rattle.skeleton.specs.contracts.search.Outcome as outcome
+use Rattle.refusals.specs.declared.Refusal.{Refusal}
 use Rattle.skeleton.specs.declared.search.Outcome.{Outcome}
 use Rattle.skeleton.specs.declared.search.Outcome.TheVariants.{Done, Paused}
 use Rattle.skeleton.specs.declared.request.Answer.{Answer}
@@ -32,13 +29,13 @@ abbrev pub Reaches : List ℕ → Told → ℕ → List ℕ → Type 0
 Reaches result x number now = (number ≡ returned result x) × (now ≡ written result x)
 
 module _ (result : List ℕ) (x : Told) where
-  pub returned-short_lem : length result < length x.numbers → returned result x ≡ 100
+  pub returned_short : length result < length x.numbers → returned result x ≡ 100
   unfolding returned
-  returned-short_lem l = cond_yes _ _ (lt-ltb _ _ l)
+  returned_short l = cond_yes _ _ (lt-ltb _ _ l)
 
-  pub written-short_lem : length result < length x.numbers → written result x ≡ result
+  pub written_short : length result < length x.numbers → written result x ≡ result
   unfolding written
-  written-short_lem l = cond_yes _ _ (lt-ltb _ _ l)
+  written_short l = cond_yes _ _ (lt-ltb _ _ l)
 
   pub returned_whole : length x.numbers ≤ length result → returned result x ≡ x.number
   unfolding returned
@@ -49,61 +46,60 @@ module _ (result : List ℕ) (x : Told) where
   written_whole l = cond_no _ _ (le-ltb _ _ l)
 
 -- the same reply, under another name
-pub reaches-as :
+pub reaches_as :
     (result : List ℕ) {x y : Told} {number : ℕ} {now : List ℕ} → x ≡ y → Reaches result x number now → Reaches result y number now
-reaches-as result {x} {y} {number} {now} e h = subst (λ (z : Told). Reaches result z number now) e h
+reaches_as result {x} {y} {number} {now} e h = subst (λ (z : Told). Reaches result z number now) e h
 
 -- ---- the search
 module _ (m : List ℤ) (st : List ℕ) (budget : ℕ) where
-  pub outcome-of :
+  pub outcome_of_lem :
       {o : Outcome} {number : ℕ} {numbers : List ℕ} → o ≡ outcome_of m st budget → number ≡ (shown_outcome o).number → numbers ≡ outcome_numbers o →
       told number numbers ≡ search_reply m st budget
   unfolding search_reply
-  outcome-of e f g = ap₂ told f g ∙ ap outcome_reply e
+  outcome_of_lem e f g = ap₂ told f g ∙ ap outcome_reply e
 
--- what is not the first of its cases shows no number
-pub outcome_unrefused : (o : Outcome) → OneOf (1 ∷ 2 ∷ []) (tag_of outcome.the_type o) → 0 ≡ (shown_outcome o).number
+-- what is no refusal shows no number
+pub outcome_unrefused : (o : Outcome) → ((x : Refusal) → ¬ (o ≡ Outcome.Refused x)) → 0 ≡ (shown_outcome o).number
 unfolding shown_outcome
-outcome_unrefused (Outcome.Refused x) k = absurd (⊎_elim (λ e. omega arith) (λ e. omega arith) k)
+outcome_unrefused (Outcome.Refused x) k = absurd (k x refl)
 outcome_unrefused (Done e) k = refl
 outcome_unrefused (Paused e) k = refl
 
 -- it tells two numbers
-outcome-length_lem : (o : Outcome) → length (outcome_numbers o) ≡ 2
+outcome-length : (o : Outcome) → length (outcome_numbers o) ≡ 2
 unfolding outcome_numbers
-outcome-length_lem (Outcome.Refused x) = refl
-outcome-length_lem (Done e) = refl
-outcome-length_lem (Paused e) = refl
+outcome-length (Outcome.Refused x) = refl
+outcome-length (Done e) = refl
+outcome-length (Paused e) = refl
 
 module _ (result : List ℕ) (m : List ℤ) (st : List ℕ) (budget : ℕ) where
-  pub search-short_lem : length result < 2 → length result < length (search_reply m st budget).numbers
+  pub search_short : length result < 2 → length result < length (search_reply m st budget).numbers
   unfolding search_reply
-  search-short_lem l = subst (λ (k : ℕ). length result < k) (sym (outcome-length_lem (outcome_of m st budget))) l
+  search_short l = subst (λ (k : ℕ). length result < k) (sym (outcome-length (outcome_of m st budget))) l
 
-  pub status-short_lem : length result < 2 → search_status result m st budget ≡ st
+  pub status_short : length result < 2 → search_status result m st budget ≡ st
   unfolding search_status
-  status-short_lem l = cond_yes _ _ (lt-ltb _ _ l)
+  status_short l = cond_yes _ _ (lt-ltb _ _ l)
 
   pub status_whole : 2 ≤ length result → search_status result m st budget ≡ status_after m st budget
   unfolding search_status
   status_whole l = cond_no _ _ (le-ltb _ _ l)
 
 -- ---- the certificate request
-pub reply_unrefused : (r : Reply) → OneOf (1 ∷ 2 ∷ 3 ∷ 4 ∷ []) (tag_of reply.the_type r) → 0 ≡ (shown_reply r).number
+pub reply_unrefused : (r : Reply) → ((x : Refusal) → ¬ (r ≡ Reply.Refused x)) → 0 ≡ (shown_reply r).number
 unfolding shown_reply
-reply_unrefused (Reply.Refused x) k =
-    absurd (⊎_elim (λ e. omega arith) (λ l. ⊎_elim (λ e. omega arith) (λ i. ⊎_elim (λ e. omega arith) (λ e. omega arith) i) l) k)
+reply_unrefused (Reply.Refused x) k = absurd (k x refl)
 reply_unrefused Hull k = refl
 reply_unrefused NotEmpty k = refl
 reply_unrefused Certified k = refl
 reply_unrefused Uncertified k = refl
 
 module _ (m : List ℤ) (st : List ℕ) (a b : ℕ) where
-  pub reply-of :
+  pub reply_of :
       {x : Answer} {number first : ℕ} {numbers : List ℕ} → x ≡ answer_of m st a b → number ≡ (shown_reply x.reply).number →
       first ≡ reply_first x.reply → numbers ≡ certificate_numbers first x.certificate → told number numbers ≡ certificate_reply m st a b
   unfolding certificate_reply
-  reply-of {x} e f g h =
+  reply_of {x} e f g h =
       ap₂ told f (h ∙ ap (λ (k : ℕ). certificate_numbers k x.certificate) g) ∙ ap answer_reply e
 
 -- ---- the number of a pair
@@ -130,10 +126,10 @@ module _ (n : ℕ) where
   unfolding longest_budget_reply
   longest_many l = cond_yes _ _ (lt-ltb _ _ l)
 
-  pub longest-few :
+  pub longest_few :
       (k : ℕ) → n ≤ 128 → k ≡ pair_count n → told 0 (k * (k + 1) / 2 ∷ []) ≡ longest_budget_reply n
   unfolding longest_budget_reply longest_budget
-  longest-few k l e = ap (λ (i : ℕ). told 0 (i * (i + 1) / 2 ∷ [])) e ∙ sym (cond_no _ _ (le-ltb _ _ l))
+  longest_few k l e = ap (λ (i : ℕ). told 0 (i * (i + 1) / 2 ∷ [])) e ∙ sym (cond_no _ _ (le-ltb _ _ l))
 
   pub few_pairs : n ≤ 128 → {k : ℕ} → k ≡ pair_count n → k ≤ 8128
   few_pairs l e = subst (λ (i : ℕ). i ≤ 8128) (sym e) (pair_count_small n l)

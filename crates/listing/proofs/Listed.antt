@@ -18,9 +18,9 @@ use Rattle.pairs.proofs.Laws.{pair_count_small}
 use Rattle.skeleton.specs.declared.search.Outcome.{Outcome}
 use Rattle.skeleton.specs.declared.search.Outcome.TheVariants.{Refused, Done, Paused}
 use Rattle.skeleton.specs.Answers.{search_refusal, outcome_of, status_after}
-use Rattle.skeleton.proofs.Table.{accepted-list_lem, accepted-long_lem}
-use Rattle.skeleton.proofs.Ended.{done-search_lem, paused-search_lem}
-use Rattle.skeleton.proofs.Theorems.{status-length_lem}
+use Rattle.skeleton.proofs.Table.{accepted_list, accepted_long}
+use Rattle.skeleton.proofs.Ended.{done_search, paused_search}
+use Rattle.skeleton.proofs.Theorems.{status-length}
 use Rattle.reading.specs.declared.read.Reading.{Reading}
 use Rattle.reading.specs.declared.read.Reading.TheVariants as reading
 use Rattle.reading.specs.Read.{numbers_of, reading_of, numbers_after}
@@ -34,13 +34,13 @@ module _ (m : List ℤ) (st : List ℕ) (budget : ℕ) where
     pub long : length (status_after m st budget) ≡ pair_count (count m)
 
   listable : search_refusal m st ≡ Accepted → Listable
-  listable e = record { few = (accepted-list_lem m st e).few; long = status-length_lem m st budget ∙ accepted-long_lem m st e }
+  listable e = record { few = (accepted_list m st e).few; long = status-length m st budget ∙ accepted_long m st e }
 
   pub done_listable : (e : ℕ) → outcome_of m st budget ≡ Done e → Listable
-  done_listable e q = listable (done-search_lem m st budget e q).0
+  done_listable e q = listable (done_search m st budget e q).0
 
   pub paused_listable : (e : ℕ) → outcome_of m st budget ≡ Paused e → Listable
-  paused_listable e q = listable (paused-search_lem m st budget e q).0
+  paused_listable e q = listable (paused_search m st budget e q).0
 
 -- ---- the text, by what the search answers
 module _ (m : List ℤ) (st : List ℕ) (budget : ℕ) where
@@ -52,17 +52,17 @@ module _ (m : List ℤ) (st : List ℕ) (budget : ℕ) where
   unfolding text_by
   listed_refused e = by e
 
-  pub listed-done :
+  pub listed_done :
       {e n : ℕ} {st' : List ℕ} → outcome_of m st budget ≡ Done e → st' ≡ status_after m st budget → n ≡ count m →
       listing_text true e st' n ≡ marks_text m st budget
   unfolding text_by
-  listed-done {e} q s k = ap₂ (listing_text true e) s k ∙ by q
+  listed_done {e} q s k = ap₂ (listing_text true e) s k ∙ by q
 
-  pub listed-paused :
+  pub listed_paused :
       {e n : ℕ} {st' : List ℕ} → outcome_of m st budget ≡ Paused e → st' ≡ status_after m st budget → n ≡ count m →
       listing_text false e st' n ≡ marks_text m st budget
   unfolding text_by
-  listed-paused {e} q s k = ap₂ (listing_text false e) s k ∙ by q
+  listed_paused {e} q s k = ap₂ (listing_text false e) s k ∙ by q
 
 -- ---- a text that stands at the start of a buffer, and its length
 abbrev pub Stands : List ℕ → ℕ → List ℕ → List ℕ → Type 0
@@ -97,11 +97,11 @@ pub listed_cleared : (m : List ℤ) (budget : ℕ) {st : List ℕ} → st ≡ re
 unfolding list_text
 listed_cleared m budget e = ap (λ (s : List ℕ). marks_text m s budget) e
 
-pub listed-status :
+pub listed_status :
     (m : List ℤ) (budget : ℕ) {k : ℕ} {st : List ℕ} → k ≡ status_room m → st ≡ replicate 8128 0 →
     status_after m (take k st) budget ++ drop k st ≡ list_status m budget
 unfolding list_status
-listed-status m budget e s =
+listed_status m budget e s =
     ap₂ ◌++◌ (ap (λ (x : List ℕ). status_after m x budget) (part_cleared m e s)) (ap₂ drop e s)
 
 -- ---- the whole answer
@@ -114,9 +114,9 @@ module _ (t : List ℕ) where
   unfolding answer_text text_for
   answered_read {budget} e q = ap (λ (m : List ℤ). list_text m budget) q ∙ sym (ap (λ (r : Reading). text_for r (numbers_of t)) e)
 
-  pub status-refused_lem : {d : ℕ} → reading_of t ≡ reading.Refused d → replicate 8128 0 ≡ answer_status t
+  pub status_refused : {d : ℕ} → reading_of t ≡ reading.Refused d → replicate 8128 0 ≡ answer_status t
   unfolding answer_status status_for
-  status-refused_lem e = sym (ap (λ (r : Reading). status_for r (numbers_of t)) e)
+  status_refused e = sym (ap (λ (r : Reading). status_for r (numbers_of t)) e)
 
   pub status_read : {budget n : ℕ} {m : List ℤ} → reading_of t ≡ reading.Read budget n → m ≡ numbers_of t → list_status m budget ≡ answer_status t
   unfolding answer_status status_for

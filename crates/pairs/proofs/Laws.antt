@@ -25,9 +25,9 @@ count_step (suc c) =
 pub pair_count_suc : (n : ℕ) → pair_count (suc n) ≡ pair_count n + n
 pair_count_suc n = omega (arith, count_step n)
 
-pub pair_count-up_lem : (m n : ℕ) → m ≤ n → pair_count m ≤ pair_count n
-pair_count-up_lem m zero h = let e : m ≡ 0 = omega arith in subst (λ (k : ℕ). pair_count k ≤ 0) (sym e) (omega arith)
-pair_count-up_lem m (suc n) h = go (pair_count-up_lem m n) (dec_lt m (suc n))
+pub pair_count_up : (m n : ℕ) → m ≤ n → pair_count m ≤ pair_count n
+pair_count_up m zero h = let e : m ≡ 0 = omega arith in subst (λ (k : ℕ). pair_count k ≤ 0) (sym e) (omega arith)
+pair_count_up m (suc n) h = go (pair_count_up m n) (dec_lt m (suc n))
   where
     go : (m ≤ n → pair_count m ≤ pair_count n) → Dec (m < suc n) → pair_count m ≤ pair_count (suc n)
     go up (yes l) = omega (arith, up (le_of_suc-le-suc l), pair_count_suc n)
@@ -41,8 +41,8 @@ pub pair_count_small : (n : ℕ) → n ≤ 128 → pair_count n ≤ 8128
 pair_count_small n h = omega (arith, square_small n h)
 
 -- ---- a pair's number is below the number of pairs
-pub pair-below_lem : (a b n : ℕ) → a < b → b < n → pair_number a b < pair_count n
-pair-below_lem a b n h l = omega (arith, pair_count_suc b, pair_count-up_lem (suc b) n l)
+pub pair_below : (a b n : ℕ) → a < b → b < n → pair_number a b < pair_count n
+pair_below a b n h l = omega (arith, pair_count_suc b, pair_count_up (suc b) n l)
 
 -- ---- the pair with a given number
 -- a < b, and the number of (a, b) is i
@@ -85,28 +85,28 @@ pair_unique a b c d h k e = go (dec_lt b d) (dec_lt d b)
     same q = let f : pair_number a d ≡ pair_number c d = subst (λ (x : ℕ). pair_number a x ≡ pair_number c d) q e in (omega arith, q)
 
     go : Dec (b < d) → Dec (d < b) → (a ≡ c) × (b ≡ d)
-    go (yes l) x = absurd (let s = pair-below_lem a b d h l in let z : ⊥ = omega arith in z)
-    go (no x) (yes l) = absurd (let s = pair-below_lem c d b k l in let z : ⊥ = omega arith in z)
+    go (yes l) x = absurd (let s = pair_below a b d h l in let z : ⊥ = omega arith in z)
+    go (no x) (yes l) = absurd (let s = pair_below c d b k l in let z : ⊥ = omega arith in z)
     go (no x) (no y) = same (omega arith)
 
-pub pair_at-number_lem : (a b : ℕ) → a < b → pair_at (pair_number a b) ≡ pair a b
-pair_at-number_lem a b h =
+pub pair_at_number : (a b : ℕ) → a < b → pair_at (pair_number a b) ≡ pair a b
+pair_at_number a b h =
     let n = pair_at_numbered (pair_number a b) in
     let e = pair_unique (pair_at (pair_number a b)).a (pair_at (pair_number a b)).b a b n.up h n.number in
     λ i. record { a = e.0 i; b = e.1 i }
 
 -- every number below the number of pairs is some pair's
-pub pair_at-below_lem : (n i : ℕ) → i < pair_count n → (pair_at i).b < n
-pair_at-below_lem n i l = go (dec_lt (pair_at i).b n)
+pub pair_at_below : (n i : ℕ) → i < pair_count n → (pair_at i).b < n
+pair_at_below n i l = go (dec_lt (pair_at i).b n)
   where
     go : Dec ((pair_at i).b < n) → (pair_at i).b < n
     go (yes h) = h
-    go (no d) = let u = (pair_at_numbered i).number in let s = pair_count-up_lem n (pair_at i).b (omega arith) in absurd (let z : ⊥ = omega arith in z)
+    go (no d) = let u = (pair_at_numbered i).number in let s = pair_count_up n (pair_at i).b (omega arith) in absurd (let z : ⊥ = omega arith in z)
 
 -- ---- in whichever order they stand
-pub pair_of-up_lem : (p q : ℕ) → p < q → pair_of p q ≡ pair_number p q
+pub pair_of_up : (p q : ℕ) → p < q → pair_of p q ≡ pair_number p q
 unfolding pair_of
-pair_of-up_lem p q h = cond_yes _ _ (lt-ltb p q h)
+pair_of_up p q h = cond_yes _ _ (lt-ltb p q h)
 
 pub pair_of_down : (p q : ℕ) → q ≤ p → pair_of p q ≡ pair_number q p
 unfolding pair_of
@@ -116,13 +116,13 @@ pub pair_of_swap : (p q : ℕ) → pair_of p q ≡ pair_of q p
 pair_of_swap p q = go (dec_lt p q) (dec_lt q p)
   where
     go : Dec (p < q) → Dec (q < p) → pair_of p q ≡ pair_of q p
-    go (yes h) x = pair_of-up_lem p q h ∙ sym (pair_of_down q p (omega arith))
-    go (no x) (yes h) = pair_of_down p q (omega arith) ∙ sym (pair_of-up_lem q p h)
+    go (yes h) x = pair_of_up p q h ∙ sym (pair_of_down q p (omega arith))
+    go (no x) (yes h) = pair_of_down p q (omega arith) ∙ sym (pair_of_up q p h)
     go (no x) (no y) = let e : p ≡ q = omega arith in subst (λ (k : ℕ). pair_of p k ≡ pair_of k p) e refl
 
-pub pair_of-below_lem : (p q n : ℕ) → (p ≡ q → ⊥) → p < n → q < n → pair_of p q < pair_count n
-pair_of-below_lem p q n d h k = go (dec_lt p q)
+pub pair_of_below : (p q n : ℕ) → (p ≡ q → ⊥) → p < n → q < n → pair_of p q < pair_count n
+pair_of_below p q n d h k = go (dec_lt p q)
   where
     go : Dec (p < q) → pair_of p q < pair_count n
-    go (yes l) = rw (pair_of-up_lem p q l) (pair-below_lem p q n l k)
-    go (no x) = rw (pair_of_down p q (omega arith)) (pair-below_lem q p n (⊎_elim (λ e. absurd (d (sym e))) (λ l. l) (eq-or-lt_of_le (let z : q ≤ p = omega arith in z))) h)
+    go (yes l) = rw (pair_of_up p q l) (pair_below p q n l k)
+    go (no x) = rw (pair_of_down p q (omega arith)) (pair_below q p n (⊎_elim (λ e. absurd (d (sym e))) (λ l. l) (eq-or-lt_of_le (let z : q ≤ p = omega arith in z))) h)

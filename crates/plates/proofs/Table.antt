@@ -56,11 +56,11 @@ row_right : (k : ℕ) → k < 13 → (b : Bool) → right_at k ≡ b → right_a
 row_right k l true e = e
 row_right k l false e = not_both all_right (all_no right_at k 13 l e)
 
-pub plate-right :
+pub plate_right :
     (k : ℕ) → k < 13 →
     (outcome_of (marks_at k) (lent_at k) (budget_at k) ≡ outcome_at k) × (status_after (marks_at k) (lent_at k) (budget_at k) ≡ status_at k)
 unfolding right_at
-plate-right k l =
+plate_right k l =
     let r = row_right k l (right_at k) refl in (
       same_outcome_lem _ _ (both_first (same_outcome (outcome_of (marks_at k) (lent_at k) (budget_at k)) (outcome_at k)) _ r),
       same_list_lem _ _ (both_second (same_outcome (outcome_of (marks_at k) (lent_at k) (budget_at k)) (outcome_at k)) _ r),

@@ -18,7 +18,7 @@ use Rattle.reading.specs.declared.read.Reading.TheVariants.{Refused, Read}
 use Rattle.reading.specs.Text.{feed, place_of}
 use Rattle.reading.specs.Read.{budget_of, is_bad, first_bad, Readable, Row9, long, empty, line, mark_count, numbers_of, reading_of, number_of, detail_of, numbers_by, numbers_after}
 use Rattle.reading.proofs.Lines.{first_start, start_above, bad_there}
-use Rattle.reading.proofs.Marks.{marks-take_lem, numbers-length_lem}
+use Rattle.reading.proofs.Marks.{marks-take, numbers-length}
 
 module _ (t : List ℕ) where
   pub too_long : 4096 < length t → Refused 0 ≡ reading_of t
@@ -130,16 +130,16 @@ module _ (t : List ℕ) where
     count_is = let g = good_text was_readable in cc
 
     pub count_small : n ≤ 2046
-    count_small = let r = was_readable in let m = marks-take_lem t r (mark_count t) (le_refl (mark_count t)) in let c = count_is in omega arith
+    count_small = let r = was_readable in let m = marks-take t r (mark_count t) (le_refl (mark_count t)) in let c = count_is in omega arith
 
-    pub numbers-count_lem : length (numbers_of t) ≡ n
+    pub numbers_count : length (numbers_of t) ≡ n
     unfolding numbers_of
-    numbers-count_lem = numbers-length_lem t (mark_count t) ∙ sym count_is
+    numbers_count = numbers-length t (mark_count t) ∙ sym count_is
 
     module _ (old : List ℤ) where
       -- the text's numbers stand at the start, and the rest is as it was
       pub numbers_first : take n (numbers_after t old) ≡ numbers_of t
-      numbers_first = ap (take n) (sym (filled old b n e)) ∙ take_at (numbers_of t) (drop n old) n numbers-count_lem
+      numbers_first = ap (take n) (sym (filled old b n e)) ∙ take_at (numbers_of t) (drop n old) n numbers_count
 
-      pub numbers-rest_lem : drop n (numbers_after t old) ≡ drop n old
-      numbers-rest_lem = ap (drop n) (sym (filled old b n e)) ∙ drop_at (numbers_of t) (drop n old) n numbers-count_lem
+      pub numbers_rest : drop n (numbers_after t old) ≡ drop n old
+      numbers_rest = ap (drop n) (sym (filled old b n e)) ∙ drop_at (numbers_of t) (drop n old) n numbers_count

@@ -107,12 +107,12 @@ module _ (t : List ℕ) where
 
   -- ---- a text without a bad line
   module _ (r : Readable t) where
-    pub good-line_lem : (n : ℕ) → line_start t n < length t → is_good t n ≡ true
+    pub good_line : (n : ℕ) → line_start t n < length t → is_good t n ≡ true
     unfolding first_bad
-    good-line_lem n l = good_if n l (before_first (is_bad t) (length t) n (let k = start_above n l in let g = r.good in omega arith))
+    good_line n l = good_if n l (before_first (is_bad t) (length t) n (let k = start_above n l in let g = r.good in omega arith))
 
     first_good : is_good_at t 0 0 (place_of feed t 0) ≡ true
-    first_good = good_at 0 0 (place_of feed t 0) (sym first_start) refl ∙ good-line_lem 0 (let e = first_start in let s = r.some in omega arith)
+    first_good = good_at 0 0 (place_of feed t 0) (sym first_start) refl ∙ good_line 0 (let e = first_start in let s = r.some in omega arith)
 
     pub first_there : (j : ℕ) → j < 1 → is_over t j ≡ false
     first_there j l = subst (λ (i : ℕ). is_over t i ≡ false) (let z : 0 ≡ j = omega arith in z) (over_no 0 (let e = first_start in let s = r.some in omega arith))

@@ -16,7 +16,7 @@ use Rattle.plane.proofs.Laws.Tells.{cond_no}
 use Rattle.plane.proofs.Laws.Numbers.{first_here, first_none}
 use Rattle.reading.specs.Text.{Part, feed, space, place_of, is_coordinate, coordinate_of}
 use Rattle.reading.specs.Read.{is_budget, is_mark, is_mark_at, line_start, line_end, is_there, is_good_at, Readable, is_over, mark_count, x_of, y_of, numbers_to}
-use Rattle.reading.proofs.Lines.{next_start, second_start, over_yes, good-line_lem, good_ended, first_ended}
+use Rattle.reading.proofs.Lines.{next_start, second_start, over_yes, good_line, good_ended, first_ended}
 use Rattle.reading.proofs.Tests.{and_yes, before_or_from, before_first}
 use Rattle.reading.proofs.Text.{place_part, coordinate_some}
 
@@ -33,18 +33,18 @@ pub record MarkLine (t : List ℕ) (k a s e : ℕ) : Type 0 where
   pub next : e + 1 ≡ line_start t (k + 1 + 1)
 
 module _ (t : List ℕ) (k : ℕ) where
-  good-mark_lem : (a e : ℕ) → is_good_at t (k + 1) a e ≡ true → is_mark t a e ≡ true
+  good_mark : (a e : ℕ) → is_good_at t (k + 1) a e ≡ true → is_mark t a e ≡ true
   unfolding is_good_at
-  good-mark_lem a e h = sym (cond_no _ _ (ne_eqb (k + 1) 0 (λ z. let y : ⊥ = omega arith in y))) ∙ (and_yes (ltb e (length t)) (cond (eqb (k + 1) 0) (is_budget t a e) (is_mark t a e)) h).1
+  good_mark a e h = sym (cond_no _ _ (ne_eqb (k + 1) 0 (λ z. let y : ⊥ = omega arith in y))) ∙ (and_yes (ltb e (length t)) (cond (eqb (k + 1) 0) (is_budget t a e) (is_mark t a e)) h).1
 
   module _ (a s e : ℕ) (m : is_mark_at t a s e ≡ true) where
-    mark-space_lem : s < e
+    mark_space : s < e
     unfolding is_mark_at
-    mark-space_lem = ltb-true s e (and_yes (ltb s e) (cond (is_coordinate t a s) (is_coordinate t (s + 1) e) false) m).0
+    mark_space = ltb-true s e (and_yes (ltb s e) (cond (is_coordinate t a s) (is_coordinate t (s + 1) e) false) m).0
 
-    mark-both_lem : (is_coordinate t a s ≡ true) × (is_coordinate t (s + 1) e ≡ true)
+    mark_both : (is_coordinate t a s ≡ true) × (is_coordinate t (s + 1) e ≡ true)
     unfolding is_mark_at
-    mark-both_lem = and_yes (is_coordinate t a s) (is_coordinate t (s + 1) e) (and_yes (ltb s e) (cond (is_coordinate t a s) (is_coordinate t (s + 1) e) false) m).1
+    mark_both = and_yes (is_coordinate t a s) (is_coordinate t (s + 1) e) (and_yes (ltb s e) (cond (is_coordinate t a s) (is_coordinate t (s + 1) e) false) m).1
 
   here : Readable t → line_start t (k + 1) < length t → MarkLine t k (line_start t (k + 1)) (place_of space t (line_start t (k + 1))) (line_end t (k + 1))
   unfolding x_of y_of
@@ -52,11 +52,11 @@ module _ (t : List ℕ) (k : ℕ) where
       let a = line_start t (k + 1) in
       let s = place_of space t a in
       let e = place_of feed t a in
-      let g = good-line_lem t r (k + 1) m in
+      let g = good_line t r (k + 1) m in
       let d = good_ended t (k + 1) a e g in
-      let q = good-mark_lem a e g in
-      let w = mark-space_lem a s e q in
-      let b = mark-both_lem a s e q in
+      let q = good_mark a e g in
+      let w = mark_space a s e q in
+      let b = mark_both a s e q in
       let x = coordinate_some t a s b.0 in
       let y = coordinate_some t (s + 1) e b.1 in
       record {
@@ -71,8 +71,8 @@ module _ (t : List ℕ) (k : ℕ) where
         next = sym (next_start t (k + 1));
       }
 
-  pub mark-line_lem : Readable t → (a s e : ℕ) → a ≡ line_start t (k + 1) → s ≡ place_of space t a → e ≡ place_of feed t a → a < length t → MarkLine t k a s e
-  mark-line_lem r a s e p q o m =
+  pub mark_line : Readable t → (a s e : ℕ) → a ≡ line_start t (k + 1) → s ≡ place_of space t a → e ≡ place_of feed t a → a < length t → MarkLine t k a s e
+  mark_line r a s e p q o m =
       let z = here r (subst (λ (x : ℕ). x < length t) p m) in
       let y = subst (λ (x : ℕ). MarkLine t k (line_start t (k + 1)) x (line_end t (k + 1))) (sym (q ∙ ap (place_of space t) p)) z in
       let x = subst (λ (x : ℕ). MarkLine t k (line_start t (k + 1)) s x) (sym (o ∙ ap (place_of feed t) p)) y in
@@ -99,10 +99,10 @@ module _ (t : List ℕ) (r : Readable t) where
   unfolding mark_count
   there_before k l = there_if (k + 1) (before_first (is_over t) (length t) (k + 1) (omega arith))
 
-  pub marks-take_lem : (k : ℕ) → k ≤ mark_count t → (4 * k + 1 ≤ line_start t (k + 1)) × (line_start t (k + 1) ≤ length t)
-  marks-take_lem zero l = let s = second_start t in let e = first_ended t r in (omega arith, omega arith)
-  marks-take_lem (suc k) l =
-      let h = marks-take_lem k (omega arith) in
+  pub marks-take : (k : ℕ) → k ≤ mark_count t → (4 * k + 1 ≤ line_start t (k + 1)) × (line_start t (k + 1) ≤ length t)
+  marks-take zero l = let s = second_start t in let e = first_ended t r in (omega arith, omega arith)
+  marks-take (suc k) l =
+      let h = marks-take k (omega arith) in
       let u = there_before k l in
       let m = here t k r u in
       let n = m.next ∙ ap (line_start t) (let z : k + 1 + 1 ≡ suc k + 1 = omega arith in z) in
@@ -114,10 +114,10 @@ module _ (t : List ℕ) where
   unfolding numbers_to
   numbers_more k = ap (numbers_to t) (add-one k)
 
-  pub numbers-length_lem : (k : ℕ) → length (numbers_to t k) ≡ 2 * k
+  pub numbers-length : (k : ℕ) → length (numbers_to t k) ≡ 2 * k
   unfolding numbers_to
-  numbers-length_lem zero = refl
-  numbers-length_lem (suc k) = let e = numbers-length_lem k in let f = length-append (numbers_to t k) (x_of t (k + 1) ∷ y_of t (k + 1) ∷ []) in omega arith
+  numbers-length zero = refl
+  numbers-length (suc k) = let e = numbers-length k in let f = length-append (numbers_to t k) (x_of t (k + 1) ∷ y_of t (k + 1) ∷ []) in omega arith
 
 -- two numbers are stored behind those of `done`
 pub stored_two : (done old : List ℤ) (i : ℕ) (x y : ℤ) → length done ≡ i → i + 2 ≤ length old → set (set (done ++ drop i old) i x) (i + 1) y ≡ done ++ (x ∷ y ∷ []) ++ drop (i + 2) old
@@ -133,6 +133,6 @@ pub stored_mark : (t : List ℕ) (k : ℕ) (old held : List ℤ) (x y : ℤ) →
 stored_mark t k old held x y p l q r =
     let e : 2 * k + 2 ≡ 2 * (k + 1) = omega arith in
     ap (λ (h : List ℤ). set (set h (2 * k) x) (2 * k + 1) y) p
-    ∙ stored_two (numbers_to t k) old (2 * k) x y (numbers-length_lem t k) l
+    ∙ stored_two (numbers_to t k) old (2 * k) x y (numbers-length t k) l
     ∙ ap₂ (λ (u v : ℤ). numbers_to t k ++ (u ∷ v ∷ []) ++ drop (2 * k + 2) old) q r
     ∙ ap₂ (λ (h : List ℤ) (n : ℕ). h ++ drop n old) (sym (numbers_more t k)) e

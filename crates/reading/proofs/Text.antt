@@ -53,8 +53,8 @@ module _ (t : List ℕ) (a : ℕ) where
   unfolding digit_from
   digit_before i l = cond_yes _ _ (lt-ltb i a l)
 
-  pub digits-none_lem : all_to a (digit_from t a) ≡ true
-  digits-none_lem = all_true _ a digit_before
+  pub digits_none : all_to a (digit_from t a) ≡ true
+  digits_none = all_true _ a digit_before
 
   pub digit_is : (i : ℕ) → a ≤ i → digit_from t a i ≡ is_digit (byte_at t i)
   unfolding digit_from
@@ -106,16 +106,16 @@ module _ (t : List ℕ) (a e : ℕ) where
           digit_is t a i m ∙ ap is_digit (ap (byte_at t) (let o = only_one digit0 t a e h in let z : i ≡ a = omega arith in z) ∙ only_byte digit0 t a e h)
 
   module _ (k : ℕ) (h : is_number k t a e ≡ true) where
-    pub number-length_lem : e - a ≤ k
+    pub number-length : e - a ≤ k
     unfolding is_number
-    number-length_lem = ltb-false k (e - a) (unless_yes (ltb k (e - a)) (cond (is_only digit0 t a e) true (is_counting t a e)) h).0
+    number-length = ltb-false k (e - a) (unless_yes (ltb k (e - a)) (cond (is_only digit0 t a e) true (is_counting t a e)) h).0
 
     number_kind : cond (is_only digit0 t a e) true (is_counting t a e) ≡ true
     unfolding is_number
     number_kind = (unless_yes (ltb k (e - a)) (cond (is_only digit0 t a e) true (is_counting t a e)) h).1
 
-    pub number-some_lem : a < e
-    number-some_lem = go (is_only digit0 t a e) refl number_kind
+    pub number_some : a < e
+    number_some = go (is_only digit0 t a e) refl number_kind
       where
         go : (s : Bool) → is_only digit0 t a e ≡ s → cond s true (is_counting t a e) ≡ true → a < e
         go true q r = let o = only_one digit0 t a e q in omega arith
@@ -130,17 +130,17 @@ module _ (t : List ℕ) (a e : ℕ) where
 
     pub number_wider : (m : ℕ) → k ≤ m → is_number m t a e ≡ true
     unfolding is_number
-    number_wider m l = cond_no _ _ (le-ltb m (e - a) (let n = number-length_lem in omega arith)) ∙ number_kind
+    number_wider m l = cond_no _ _ (le-ltb m (e - a) (let n = number-length in omega arith)) ∙ number_kind
 
-    pub number-digit_lem : (i : ℕ) → i < e - a → is_digit (byte_at t (a + i)) ≡ true
-    number-digit_lem i l = digit_at t a e (a + i) number_digits (omega arith) (omega arith)
+    pub number_digit : (i : ℕ) → i < e - a → is_digit (byte_at t (a + i)) ≡ true
+    number_digit i l = digit_at t a e (a + i) number_digits (omega arith) (omega arith)
 
     -- what the first i digits spell, and the whole number
     pub value_small : (i m : ℕ) → i ≤ e - a → i ≤ m → spelled t a i < 10 ^ m
-    value_small i m l n = lt_of_lt_of_le (value_below t a i (λ j o. number-digit_lem j (omega arith))) (pow-le-pow_right (lit< tt) n)
+    value_small i m l n = lt_of_lt_of_le (value_below t a i (λ j o. number_digit j (omega arith))) (pow-le-pow_right (lit< tt) n)
 
-    pub number-below_lem : value_of t a e < 10 ^ k
-    number-below_lem = value_small (e - a) k (omega arith) number-length_lem
+    pub number_below : value_of t a e < 10 ^ k
+    number_below = value_small (e - a) k (omega arith) number-length
 
 -- ---- parts
 module _ (t : List ℕ) (a e : ℕ) where
@@ -149,9 +149,9 @@ module _ (t : List ℕ) (a e : ℕ) where
 
   -- ---- coordinates
   module _ (h : is_coordinate t a e ≡ true) where
-    pub dash-number_lem : starts_with dash t a e ≡ true → is_number 7 t (a + 1) e ≡ true
+    pub dash_number : starts_with dash t a e ≡ true → is_number 7 t (a + 1) e ≡ true
     unfolding is_coordinate
-    dash-number_lem s = (unless_yes (is_only digit0 t (a + 1) e) (is_number 7 t (a + 1) e) (sym (cond_yes _ _ s) ∙ h)).1
+    dash_number s = (unless_yes (is_only digit0 t (a + 1) e) (is_number 7 t (a + 1) e) (sym (cond_yes _ _ s) ∙ h)).1
 
     pub plain_number : starts_with dash t a e ≡ false → is_number 7 t a e ≡ true
     unfolding is_coordinate
@@ -162,4 +162,4 @@ module _ (t : List ℕ) (a e : ℕ) where
       where
         go : (s : Bool) → starts_with dash t a e ≡ s → a < e
         go true q = starts_some dash t a e q
-        go false q = number-some_lem t a e 7 (plain_number q)
+        go false q = number_some t a e 7 (plain_number q)

@@ -203,8 +203,8 @@ module _ (m : List ℤ) where
       from (first k e q r b) h = absurd (h k e r)
 
   -- ---- what an accepted list is
-  pub accepted-plate_lem : verdict m ≡ Accepted → Plate m
-  accepted-plate_lem p = go first?
+  pub accepted_plate : verdict m ≡ Accepted → Plate m
+  accepted_plate p = go first?
     where
       near : AllNear → (k : ℕ) → Near 10000 (get_or m k (pos 0))
       near g k = split (dec_lt k (length m))

@@ -8,7 +8,7 @@ use native.Mathlib.Omega.{arith}
 use lib.ListN.{length, get_or, set, replicate, length-set, length-replicate, get_or-replicate}
 use lib.Seq.{get_or-set_same, get_or-set_other, ext_get_or}
 use Rattle.striking.specs.Below.{list_below}
-use Rattle.striking.proofs.Below.{length-list_lem, list_at}
+use Rattle.striking.proofs.Below.{length_list, list_at}
 
 pub record Filling (f : ℕ → ℕ) (i : ℕ) (st₀ st : List ℕ) : Type 0 where
   pub size : length st ≡ length st₀
@@ -48,7 +48,7 @@ module _ {f : ℕ → ℕ} {i : ℕ} {st₀ st : List ℕ} (h : Filling f i st�
 
   pub filling_end : (n : ℕ) → length st₀ ≡ n → n ≤ i → st ≡ list_below n f
   filling_end n e l =
-      ext_get_or 0 st (list_below n f) (h.size ∙ e ∙ sym (length-list_lem f n))
+      ext_get_or 0 st (list_below n f) (h.size ∙ e ∙ sym (length_list f n))
       (λ j k. let s = h.size in h.done j (omega arith) ∙ sym (list_at f n j (omega arith)))
 
 -- one byte throughout

@@ -16,7 +16,7 @@ use Rattle.plane.proofs.Laws.Edge.{empty_edge_tells}
 use Rattle.plane.proofs.Laws.Hull.{OneSided, none_left, none_right, inner_edge_tells}
 use Rattle.sets.specs.Sets.{lacks, none}
 use Rattle.sides.specs.Sides.{left_mark, left_set}
-use Rattle.sets.proofs.Laws.Sets.{none-set_lem}
+use Rattle.sets.proofs.Laws.Sets.{none-set}
 use Rattle.sides.proofs.Laws.{Left, left_tells}
 
 module _ (m : List ℤ) (few : count m ≤ 128) where
@@ -28,7 +28,7 @@ module _ (m : List ℤ) (few : count m ≤ 128) where
   unfolding left_set lacks
   none_tells a b ha hb =
       tells_map to from
-      (record { to = λ t. all.to (subst T (none-set_lem (left_mark m a b)) t); from = λ h. subst T (sym (none-set_lem (left_mark m a b))) (all.from h) })
+      (record { to = λ t. all.to (subst T (none-set (left_mark m a b)) t); from = λ h. subst T (sym (none-set (left_mark m a b))) (all.from h) })
     where
       all : Tells (all_to 128 (lacks (left_mark m a b))) ((k : ℕ) → k < 128 → ¬ Left m a b k)
       all = tells_all 128 (lacks (left_mark m a b)) (λ k l. ¬ Left m a b k) (λ k l. tells_not (left_tells m a b k))

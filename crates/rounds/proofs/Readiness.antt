@@ -15,7 +15,7 @@ use Rattle.plane.specs.Edge.{empty_edge}
 use Rattle.plane.specs.Hull.{one_sided, kind_of}
 use Rattle.plane.specs.declared.hull.Kind.TheVariants.{Blocked, Hull, Inner}
 use native.Mathlib.Numerals.{add-one}
-use Rattle.pairs.proofs.Laws.{pair_at_numbered, pair_at-below_lem, pair-below_lem}
+use Rattle.pairs.proofs.Laws.{pair_at_numbered, pair_at_below, pair_below}
 use Rattle.masks.specs.Table.{Filled}
 use Rattle.striking.specs.System.{System, crossed, due}
 use Rattle.striking.specs.Status.{remaining, all_edges, status_byte}
@@ -29,9 +29,9 @@ use Rattle.certificates.proofs.Places.{Place}
 use Rattle.rounds.proofs.Filling.{Filling}
 
 -- the byte with which a pair starts
-pub edge-byte_lem : {m : List ℤ} {i : ℕ} {p : Pair} → Place m i p → edge_byte (kind_of m p.a p.b) ≡ cond ((plate m).edge i) 1 0
+pub edge_byte_lem : {m : List ℤ} {i : ℕ} {p : Pair} → Place m i p → edge_byte (kind_of m p.a p.b) ≡ cond ((plate m).edge i) 1 0
 unfolding kind_of edge_byte
-edge-byte_lem {m} {i} {p} h =
+edge_byte_lem {m} {i} {p} h =
     go (empty_edge m p.a p.b) (one_sided m p.a p.b)
     ∙ sym (ap (λ (t : Bool). cond t 1 0) (ap (plate m).edge h.number ∙ edge_at m p.a p.b (record { up = h.up; marks = h.mark })))
   where
@@ -65,10 +65,10 @@ ready_same {m} {st} {st'} {t} {d} n e h =
       rows = subst (λ (S : ℕ → Bool). Rows m (edges_of m S) d) (sym e) h.rows;
     }
 
-pub ready-struck :
+pub ready_struck :
     {m : List ℤ} {st t d d' : List ℕ} (a b i : ℕ) → i ≡ pair_number a b → Ready m st t d →
     Rows m (edges_of m (remaining (set st (pair_number a b) 0))) d' → Ready m (set st i 0) t d'
-ready-struck {m} {st} {t} {d} {d'} a b i e h r =
+ready_struck {m} {st} {t} {d} {d'} a b i e h r =
     record {
       accepted = h.accepted;
       long = length-set st i 0 ∙ h.long;
@@ -79,7 +79,7 @@ ready-struck {m} {st} {t} {d} {d'} a b i e h r =
 
 -- the number of a pair is a place of the status buffer
 pub ready_place : {m : List ℤ} {st t d : List ℕ} {i a b : ℕ} → Ready m st t d → a < b → IsMark m b → i ≡ pair_number a b → i < length st
-ready_place {m} {st} {t} {d} {i} {a} {b} h l k e = rw (e, h.long) (pair-below_lem a b (count m) l k)
+ready_place {m} {st} {t} {d} {i} {a} {b} h l k e = rw (e, h.long) (pair_below a b (count m) l k)
 
 -- a pair that has to be examined is an empty edge
 pub due_edge :
@@ -93,10 +93,10 @@ due_edge {m} {st} {t} {d} {i} {a} {b} h l k e q = h.clean.edges a b l k (ap (rem
     first false y z = z
 
 -- ---- statuses written over what remains leave the same pairs remaining
-pub status-remaining_lem :
+pub status_remaining :
     (y : System) {i : ℕ} {st₀ st : List ℕ} → Filling (status_byte y (remaining st₀)) i st₀ st → remaining st ≡ remaining st₀
 unfolding remaining status_byte
-status-remaining_lem y {i} {st₀} {st} h = fun_ext (λ j. go j (dec_lt j i))
+status_remaining y {i} {st₀} {st} h = fun_ext (λ j. go j (dec_lt j i))
   where
     bit : (s c : Bool) → not (eqb (cond s (cond c 1 2) 0) 0) ≡ s
     bit true true = refl

@@ -10,11 +10,11 @@ use native.Mathlib.Omega.{arith}
 use lib.IntN.{ℤ}
 use lib.ListN.{set}
 use Rattle.pairs.specs.Pairs.{pair_number}
-use Rattle.pairs.proofs.Laws.{pair_at-number_lem}
+use Rattle.pairs.proofs.Laws.{pair_at_number}
 use Rattle.striking.specs.System.{System, crossed, due}
 use Rattle.striking.specs.Status.{remaining}
 use Rattle.striking.specs.Search.{done, paused, answer8, State, going, over, examine, visit, visits, rounds}
-use Rattle.striking.proofs.Steps.{visit_pass, visit_pause, visit_examines, visit-over_lem, after, rounds-more}
+use Rattle.striking.proofs.Steps.{visit_pass, visit_pause, visit_examines, visit_over, after, rounds_more}
 use Rattle.striking.proofs.Invariants.{Grown, GrownAt, round_grows}
 use Rattle.certificates.specs.declared.certificate.Pick.{Pick}
 use Rattle.certificates.specs.declared.certificate.Pick.TheVariants.{Nothing, Apexes}
@@ -29,7 +29,7 @@ use Rattle.rounds.specs.Run.{outcome_by, as_final, state_by, as_state}
 -- ---- what is known of the certificate is known of the system
 vouched_by : (m : List ℤ) (S : ℕ → Bool) (a b : ℕ) → a < b → (plate m).vouched S (pair_number a b) ≡ is_found (first_certificate m (edges_of m S) a b)
 unfolding plate certified
-vouched_by m S a b l = ap (certified m (edges_of m S)) (pair_at-number_lem a b l)
+vouched_by m S a b l = ap (certified m (edges_of m S)) (pair_at_number a b l)
 
 -- ---- an examination
 module _ (m : List ℤ) (struck : Bool) (e : ℕ) (st : List ℕ) (a b : ℕ) (l : a < b) where
@@ -39,22 +39,22 @@ module _ (m : List ℤ) (struck : Bool) (e : ℕ) (st : List ℕ) (a b : ℕ) (l
   found : {i : ℕ} (p : Pick) → i ≡ pair_number a b → p ≡ first_certificate m (edges_of m (remaining st)) a b → y.vouched (remaining st) i ≡ is_found p
   found p n f = ap (y.vouched (remaining st)) n ∙ vouched_by m (remaining st) a b l ∙ ap is_found (sym f)
 
-  pub examine-keeps :
+  pub examine_keeps :
       {i r s : ℕ} {p : Pick} → i ≡ pair_number a b → p ≡ first_certificate m (edges_of m (remaining st)) a b → p ≡ Apexes r s →
       going struck (e + 1) st ≡ examine y struck e st i
   unfolding examine is_found
-  examine-keeps {i} {r} {s} {p} n f q = sym (rw (examine, found p n f ∙ ap is_found q))
+  examine_keeps {i} {r} {s} {p} n f q = sym (rw (examine, found p n f ∙ ap is_found q))
 
   module _ {i : ℕ} {p : Pick} (n : i ≡ pair_number a b) (f : p ≡ first_certificate m (edges_of m (remaining st)) a b) (q : p ≡ Nothing) where
     pub examine_strikes : crossed y (remaining st) i ≡ true → going true (e + 1) (set st i 0) ≡ examine y struck e st i
     unfolding examine is_found
     examine_strikes c = sym (rw (examine, found p n f ∙ ap is_found q, c))
 
-    pub examine-stuck :
+    pub examine_stuck :
         crossed y (remaining st) i ≡ false →
         over (record { outcome = answer8 i; examinations = e + 1; rest = st }) ≡ examine y struck e st i
     unfolding examine is_found
-    examine-stuck c = sym (rw (examine, found p n f ∙ ap is_found q, c))
+    examine_stuck c = sym (rw (examine, found p n f ∙ ap is_found q, c))
 
 -- ---- the code's state
 pub state_going : {run : Run} {st : List ℕ} → run.halt ≡ Going → as_state run st ≡ going run.struck run.exams st
@@ -83,26 +83,26 @@ paused_by (Stuck i) j k = absurd (j i refl)
 -- ---- a pair's turn
 module _ (y : System) (budget i : ℕ) (run : Run) (st : List ℕ) where
   pub turn_over : ¬ (run.halt ≡ Going) → as_state run st ≡ visit y budget i (as_state run st)
-  turn_over n = state_over run st n ∙ sym (visit-over_lem y budget i (as_final run st)) ∙ ap (visit y budget i) (sym (state_over run st n))
+  turn_over n = state_over run st n ∙ sym (visit_over y budget i (as_final run st)) ∙ ap (visit y budget i) (sym (state_over run st n))
 
   module _ (h : run.halt ≡ Going) where
     pub turn_passes : due y (remaining st) i ≡ false → as_state run st ≡ visit y budget i (as_state run st)
     turn_passes d = state_going h ∙ sym (visit_pass y budget i run.struck run.exams st d) ∙ ap (visit y budget i) (sym (state_going h))
 
-    pub turn-examines :
+    pub turn_examines :
         due y (remaining st) i ≡ true → run.exams < budget →
         examine y run.struck run.exams st i ≡ visit y budget i (as_state run st)
-    turn-examines d l = sym (visit_examines y budget i run.struck run.exams st d l) ∙ ap (visit y budget i) (sym (state_going h))
+    turn_examines d l = sym (visit_examines y budget i run.struck run.exams st d l) ∙ ap (visit y budget i) (sym (state_going h))
 
-    pub turn-pauses :
+    pub turn_pauses :
         due y (remaining st) i ≡ true → budget ≤ run.exams →
         over (record { outcome = paused; examinations = run.exams; rest = st }) ≡ visit y budget i (as_state run st)
-    turn-pauses d l = sym (visit_pause y budget i run.struck run.exams st d l) ∙ ap (visit y budget i) (sym (state_going h))
+    turn_pauses d l = sym (visit_pause y budget i run.struck run.exams st d l) ∙ ap (visit y budget i) (sym (state_going h))
 
 -- ---- a round, pair by pair
-pub visits-none_lem : (y : System) (budget : ℕ) (s : State) → visits y budget 0 s ≡ s
+pub visits_none : (y : System) (budget : ℕ) (s : State) → visits y budget 0 s ≡ s
 unfolding visits
-visits-none_lem y budget s = refl
+visits_none y budget s = refl
 
 pub visits_more : (y : System) (budget i : ℕ) (s : State) → visits y budget (i + 1) s ≡ visit y budget i (visits y budget i s)
 unfolding visits
@@ -113,18 +113,18 @@ module _
     (y : System) (budget fuel e : ℕ) (st₀ : List ℕ) (run : Run) (st : List ℕ)
     (r : as_state run st ≡ visits y budget y.size (going false e st₀)) where
   round_then : {s : State} → as_state run st ≡ s → rounds y budget (suc fuel) e st₀ ≡ after y budget fuel s
-  round_then q = rounds-more y budget fuel e st₀ ∙ ap (after y budget fuel) (sym r ∙ q)
+  round_then q = rounds_more y budget fuel e st₀ ∙ ap (after y budget fuel) (sym r ∙ q)
 
-  pub rounds-over_lem : ¬ (run.halt ≡ Going) → as_final run st ≡ rounds y budget (suc fuel) e st₀
+  pub rounds_over : ¬ (run.halt ≡ Going) → as_final run st ≡ rounds y budget (suc fuel) e st₀
   unfolding after
-  rounds-over_lem n = sym (round_then (state_over run st n))
+  rounds_over n = sym (round_then (state_over run st n))
 
   module _ (h : run.halt ≡ Going) where
-    pub rounds-done :
+    pub rounds_done :
         run.struck ≡ false →
         record { outcome = done; examinations = run.exams; rest = st } ≡ rounds y budget (suc fuel) e st₀
     unfolding after
-    rounds-done z = sym (round_then (state_going h ∙ ap (λ (b : Bool). going b run.exams st) z))
+    rounds_done z = sym (round_then (state_going h ∙ ap (λ (b : Bool). going b run.exams st) z))
 
     pub rounds_again : run.struck ≡ true → rounds y budget fuel run.exams st ≡ rounds y budget (suc fuel) e st₀
     unfolding after

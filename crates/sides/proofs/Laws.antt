@@ -27,8 +27,8 @@ use Rattle.sides.specs.declared.Sides.{Sides}
 use Rattle.sets.specs.Sets.{bit, word, set_of, has, lacks, none}
 use Rattle.sides.specs.Sides.{is_mark, left_mark, left_set, all_in, Passed, Found, kind_by}
 use Rattle.sets.proofs.Laws.Numbers.{split, and_true, and_no, all_same, all_short}
-use Rattle.sets.proofs.Laws.Words.{word_none, word_step, word-short_lem, word_lt}
-use Rattle.sets.proofs.Laws.Sets.{set_words, has-set_lem, none-set_lem}
+use Rattle.sets.proofs.Laws.Words.{word_none, word_step, word_short, word_lt}
+use Rattle.sets.proofs.Laws.Sets.{set_words, has-set, none-set}
 
 -- ---- left marks
 pub left_right : (p q k : Point) → left_of q p k ≡ right_of p q k
@@ -88,7 +88,7 @@ module _ (m : List ℤ) (p q k : ℕ) where
 
   pub has_left : k < 128 → has (left_set m p q) k ≡ left_mark m p q k
   unfolding left_set
-  has_left h = has-set_lem (left_mark m p q) k h
+  has_left h = has-set (left_mark m p q) k h
 
 -- ---- a mark off the segment leaves the edge clear
 pub clear_past : (m : List ℤ) (a b k : ℕ) → between (mark m a) (mark m b) (mark m k) ≡ false → clear m a b k ≡ true
@@ -124,13 +124,13 @@ pass_none m a b hi =
     let e : hi - hi ≡ 0 = omega arith in
     rw e (record { lefts = sym (word_none (left_mark m a b) hi); rights = sym (word_none (left_mark m b a) hi); free = refl })
 
-pub pass-down :
+pub pass_down :
     {m : List ℤ} {a b l r l' r' : ℕ} {c c' x y : Bool} (k hi : ℕ) → 0 < k → k ≤ hi → hi ≤ count m → IsMark m a → IsMark m b →
     Passed m a b k (hi - k) (found l r c) →
     x ≡ left_of (mark m a) (mark m b) (mark m (k - 1)) → y ≡ right_of (mark m a) (mark m b) (mark m (k - 1)) →
     l' ≡ l * 2 + bit x → r' ≡ r * 2 + bit y → c' ≡ cond c (clear m a b (k - 1)) false →
     Passed m a b (k - 1) (hi - (k - 1)) (found l' r' c')
-pass-down {m} {a} {b} k hi h le hn ha hb i ex ey el er ec =
+pass_down {m} {a} {b} k hi h le hn ha hb i ex ey el er ec =
     let hk : IsMark m (k - 1) = omega arith in
     record {
       lefts =
@@ -172,7 +172,7 @@ all_two f h n l =
 module _ (m : List ℤ) (p q : ℕ) (plate : Plate m) where
   -- a half's word, whatever of the half has marks
   low_half : (h : ℕ) → h ≡ min (count m) 64 → word (left_mark m p q) 0 (h - 0) ≡ word (left_mark m p q) 0 64
-  low_half h e = word-short_lem (left_mark m p q) 0 (h - 0) 64 (omega arith) (λ i a b. left_past m p q i (omega arith))
+  low_half h e = word_short (left_mark m p q) 0 (h - 0) 64 (omega arith) (λ i a b. left_past m p q i (omega arith))
 
   high_half : (h : ℕ) → h ≡ min (count m) 64 → word (left_mark m p q) h (count m - h) ≡ word (left_mark m p q) 64 64
   high_half h e = ⊎_elim small large (split (count m) 64)
@@ -184,20 +184,20 @@ module _ (m : List ℤ) (p q : ℕ) (plate : Plate m) where
       small l =
           let z : count m - h ≡ 0 = omega arith in
           ap (word (left_mark m p q) h) z ∙ word_none (left_mark m p q) h
-          ∙ sym (word_none (left_mark m p q) 64) ∙ word-short_lem (left_mark m p q) 64 0 64 (omega arith) (λ i a b. left_past m p q i (omega arith))
+          ∙ sym (word_none (left_mark m p q) 64) ∙ word_short (left_mark m p q) 64 0 64 (omega arith) (λ i a b. left_past m p q i (omega arith))
 
       large : 64 < count m → word (left_mark m p q) h (count m - h) ≡ word (left_mark m p q) 64 64
       large l =
           let z : h ≡ 64 = omega arith in
           ap (λ (x : ℕ). word (left_mark m p q) x (count m - x)) z
-          ∙ word-short_lem (left_mark m p q) 64 (count m - 64) 64 (omega arith) (λ i a b. left_past m p q i (omega arith))
+          ∙ word_short (left_mark m p q) 64 (count m - 64) 64 (omega arith) (λ i a b. left_past m p q i (omega arith))
 
-pub two-halves :
+pub two_halves :
     {m : List ℤ} {a b h n : ℕ} {x y : Pass} {c : Bool} → Plate m → n ≡ count m → h ≡ min n 64 →
     Passed m a b 0 (h - 0) x → Passed m a b h (n - h) y → c ≡ cond x.clear y.clear false →
     Found m a b (record { left = record { low = x.left; high = y.left }; right = record { low = x.right; high = y.right }; clear = c })
 unfolding left_set set_of empty_edge
-two-halves {m} {a} {b} {h} {n} {x} {y} {c} plate en eh px py ec =
+two_halves {m} {a} {b} {h} {n} {x} {y} {c} plate en eh px py ec =
     let e : h ≡ min (count m) 64 = omega arith in
     record {
       lefts =
@@ -215,7 +215,7 @@ two-halves {m} {a} {b} {h} {n} {x} {y} {c} plate en eh px py ec =
 none_left_of : (m : List ℤ) (p q : ℕ) (g : ℕ → Bool) → Plate m → ((k : ℕ) → IsMark m k → not (left_mark m p q k) ≡ g k) → none (left_set m p q) ≡ every_mark m g
 unfolding left_set lacks
 none_left_of m p q g plate h =
-    none-set_lem (left_mark m p q)
+    none-set (left_mark m p q)
     ∙ all_short (lacks (left_mark m p q)) (count m) 128 plate.few (λ k a b. ap not (left_past m p q k a))
     ∙ all_same (lacks (left_mark m p q)) g (count m) h
 

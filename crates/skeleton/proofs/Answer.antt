@@ -28,8 +28,8 @@ use Rattle.certificates.specs.Rule9.{IsPair}
 use Rattle.skeleton.specs.Answers.{request_refusal, without, answer_with, answer_in, unless_refused, answer_of, shown_reply, shown_request}
 use Rattle.skeleton.specs.Table.{RequestRow, pair, Lowest, None, IsAnswer, refused, not_empty, hull, certified, uncertified}
 use Rattle.certificates.proofs.Rule7.{certificate_besides}
-use Rattle.certificates.proofs.First.{nothing-none_lem, found_first, first_found, first_same, none-nothing_lem}
-use Rattle.certificates.proofs.Rule5.{hull-empty_lem, inner-empty_lem, inner_not_hull, rest-inner_lem}
+use Rattle.certificates.proofs.First.{nothing_none, found_first, first_found, first_same, none_nothing}
+use Rattle.certificates.proofs.Rule5.{hull_empty, inner_empty, inner_not_hull, rest_inner}
 use Rattle.certificates.proofs.Pairs.{pair_first}
 use Rattle.skeleton.proofs.Settled.{same_refusal, settled_exactly, settled_none}
 use Rattle.skeleton.proofs.Table.{pair_cases, request_settled, request_row_positive}
@@ -56,39 +56,39 @@ module _ (m : List ℤ) (st : List ℕ) (a b : ℕ) where
   inner_answer : None (RequestRow m st a b) → inner_edge m a b ≡ true → answer_of m st a b ≡ answer_with a b (first_certificate m K a b)
   unfolding answer_in
   inner_answer n h =
-      answer_accepted (request_none.1 n) ∙ cond_yes _ _ (inner-empty_lem m a b h) ∙ cond_no _ _ (inner_not_hull m a b h)
+      answer_accepted (request_none.1 n) ∙ cond_yes _ _ (inner_empty m a b h) ∙ cond_no _ _ (inner_not_hull m a b h)
 
   pub is_answer : {x : Answer} → IsAnswer m st a b x → answer_of m st a b ≡ x
   unfolding answer_in answer_with
   is_answer (refused x l) = answer_refused x ((request_refused x).1 l)
   is_answer (not_empty n e) = answer_accepted (request_none.1 n) ∙ cond_no _ _ e
-  is_answer (hull n h) = answer_accepted (request_none.1 n) ∙ cond_yes _ _ (hull-empty_lem m a b h) ∙ cond_yes _ _ h
+  is_answer (hull n h) = answer_accepted (request_none.1 n) ∙ cond_yes _ _ (hull_empty m a b h) ∙ cond_yes _ _ h
   is_answer (certified n h r s f) = inner_answer n h ∙ ap (answer_with a b) (first_found f)
-  is_answer (uncertified n h f) = inner_answer n h ∙ ap (answer_with a b) (none-nothing_lem m K a b f)
+  is_answer (uncertified n h f) = inner_answer n h ∙ ap (answer_with a b) (none_nothing m K a b f)
 
   pub the_answer : IsAnswer m st a b (answer_of m st a b)
   unfolding answer_in answer_with
   the_answer = of_verdict (request_refusal m st a b) refl
     where
-      of-pick :
+      of_pick :
           None (RequestRow m st a b) → inner_edge m a b ≡ true → (x : Pick) → first_certificate m K a b ≡ x →
           IsAnswer m st a b (answer_with a b x)
-      of-pick n h Nothing e = uncertified n h (nothing-none_lem m K a b e)
-      of-pick n h (Apexes r s) e = certified n h r s (found_first m K a b e)
+      of_pick n h Nothing e = uncertified n h (nothing_none m K a b e)
+      of_pick n h (Apexes r s) e = certified n h r s (found_first m K a b e)
 
-      of-kind :
+      of_kind :
           None (RequestRow m st a b) → (t : Bool) → empty_edge m a b ≡ t → (u : Bool) → hull_edge m a b ≡ u →
           IsAnswer m st a b
           (cond t (cond u (without Reply.Hull) (answer_with a b (first_certificate m K a b))) (without Reply.NotEmpty))
-      of-kind n false e u f = not_empty n e
-      of-kind n true e true f = hull n f
-      of-kind n true e false f = of-pick n (rest-inner_lem m a b e f) (first_certificate m K a b) refl
+      of_kind n false e u f = not_empty n e
+      of_kind n true e true f = hull n f
+      of_kind n true e false f = of_pick n (rest_inner m a b e f) (first_certificate m K a b) refl
 
       of_verdict : (v : Verdict) → request_refusal m st a b ≡ v → IsAnswer m st a b (answer_of m st a b)
       of_verdict (Refused x) e = subst (IsAnswer m st a b) (sym (answer_refused x e)) (refused x ((request_refused x).0 e))
       of_verdict Accepted e =
           subst (IsAnswer m st a b) (sym (answer_accepted e))
-          (of-kind (request_none.0 e) (empty_edge m a b) refl (hull_edge m a b) refl)
+          (of_kind (request_none.0 e) (empty_edge m a b) refl (hull_edge m a b) refl)
 
 -- ---- what the controller shows of it
 module _ (m : List ℤ) (st : List ℕ) (a b : ℕ) where
@@ -129,8 +129,8 @@ module _ (m : List ℤ) (st : List ℕ) (a b : ℕ) where
       go (uncertified n h f) = (λ q. n, λ k. refl)
 
 -- ---- the byte of the pair itself
-pub none-pair_lem : (m : List ℤ) (st : List ℕ) (a b : ℕ) → None (RequestRow m st a b) → IsPair m a b
-none-pair_lem m st a b n = ⊎_elim (λ p. p) (λ h. absurd (n _ _ (pair h.0))) (pair_cases m a b)
+pub none_pair : (m : List ℤ) (st : List ℕ) (a b : ℕ) → None (RequestRow m st a b) → IsPair m a b
+none_pair m st a b n = ⊎_elim (λ p. p) (λ h. absurd (n _ _ (pair h.0))) (pair_cases m a b)
 
 -- two buffers that agree but for the byte of (a, b)
 abbrev pub Agree : List ℕ → List ℕ → ℕ → ℕ → Type 0
@@ -154,10 +154,10 @@ module _
     (m : List ℤ) (st st' : List ℕ) (a b : ℕ) (agree : Agree st st' a b)
     (n : None (RequestRow m st a b)) (n' : None (RequestRow m st' a b)) where
   here : {r s : ℕ} → IsCertificate m (edges_of m (remaining st)) a b r s → IsCertificate m (edges_of m (remaining st')) a b r s
-  here = moved m st st' a b agree (none-pair_lem m st a b n)
+  here = moved m st st' a b agree (none_pair m st a b n)
 
   back : {r s : ℕ} → IsCertificate m (edges_of m (remaining st')) a b r s → IsCertificate m (edges_of m (remaining st)) a b r s
-  back = moved m st' st a b (λ i h. sym (agree i h)) (none-pair_lem m st a b n)
+  back = moved m st' st a b (λ i h. sym (agree i h)) (none_pair m st a b n)
 
   pub answer_moved : {x : Answer} → IsAnswer m st a b x → IsAnswer m st' a b x
   answer_moved (refused x l) = absurd (n _ _ l.applies)

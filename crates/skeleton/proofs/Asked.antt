@@ -56,19 +56,19 @@ module _ (m : List ℤ) (K : ℕ → ℕ → Bool) (a b : ℕ) where
   answer_inner e = answer_as e
 
 -- an inner edge is an empty one
-pub inner-empty_lem : (m : List ℤ) (a b : ℕ) → kind_of m a b ≡ Inner → empty_edge m a b ≡ true
+pub inner_empty : (m : List ℤ) (a b : ℕ) → kind_of m a b ≡ Inner → empty_edge m a b ≡ true
 unfolding kind_of
-inner-empty_lem m a b e = go (empty_edge m a b) (one_sided m a b) e
+inner_empty m a b e = go (empty_edge m a b) (one_sided m a b) e
   where
     go : (x y : Bool) → cond x (cond y Hull Inner) Blocked ≡ Inner → x ≡ true
     go true y q = refl
     go false y q = let z : ◌≡◌ {A = ℕ} 0 1 = cc in absurd (omega arith)
 
 -- the apexes of a certificate are small, and no ends of its edge
-pub apexes-apart :
+pub apexes_apart :
     (m : List ℤ) (K : ℕ → ℕ → Bool) (p q : ℕ) {r s : ℕ} → count m ≤ 128 → p < q → IsMark m q → first_certificate m K p q ≡ Apexes r s →
     Apart p q r × Apart p q s
-apexes-apart m K p q {r} {s} few up marks e =
+apexes_apart m K p q {r} {s} few up marks e =
     let c = (found_first m K p q e).certificate in
     let d = left_apart m p q r (tells_yes left_of_tells c.r_left) in
     let f = left_apart m q p s (tells_yes right_of_tells c.s_right) in

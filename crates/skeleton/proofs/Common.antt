@@ -12,9 +12,9 @@ use lib.ListN.{length, get_or, get_or-eq_default}
 use Rattle.plane.specs.Marks.{count, IsMark}
 use Rattle.pairs.specs.Pairs.{pair_count, pair_number}
 use Rattle.plane.specs.Edge.{empty_edge}
-use Rattle.pairs.proofs.Laws.{pair_at-number_lem, pair-below_lem}
+use Rattle.pairs.proofs.Laws.{pair_at_number, pair_below}
 use Rattle.striking.specs.Status.{remaining, all_edges}
-use Rattle.striking.proofs.Below.{length-list_lem, list_at}
+use Rattle.striking.proofs.Below.{length_list, list_at}
 use Rattle.striking.proofs.Remaining.{remaining_not, all_edges_lem}
 use Rattle.certificates.specs.Plate.{pairs_of, edges_of, plate}
 use Rattle.certificates.specs.Rows.{Rows, Clean}
@@ -24,23 +24,23 @@ use Rattle.certificates.proofs.Lawful.{lawful}
 use Rattle.certificates.proofs.Pairs.{edge_at}
 use Rattle.certificates.proofs.Places.{place}
 
-pub edges-long_lem : (m : List ℤ) → length (all_edges (plate m)) ≡ pair_count (count m)
+pub edges_long : (m : List ℤ) → length (all_edges (plate m)) ≡ pair_count (count m)
 unfolding all_edges plate
-edges-long_lem m = length-list_lem _ _
+edges_long m = length_list _ _
 
 module _ (m : List ℤ) (st : List ℕ) {own : List ℕ} (kept : own ≡ common (all_edges (plate m)) st) (long : length st ≡ pair_count (count m)) where
-  pub common-long_lem : length own ≡ pair_count (count m)
+  pub common_long : length own ≡ pair_count (count m)
   unfolding common
-  common-long_lem = ap length kept ∙ length-list_lem _ _ ∙ edges-long_lem m
+  common_long = ap length kept ∙ length_list _ _ ∙ edges_long m
 
   -- of a pair of the plate
   own_at : (a b : ℕ) → a < b → IsMark m b → remaining own (pair_number a b) ≡ cond (remaining st (pair_number a b)) (empty_edge m a b) false
   unfolding common common_byte remaining
   own_at a b h k =
       let i = pair_number a b in
-      let l = pair-below_lem a b (count m) h k in
+      let l = pair_below a b (count m) h k in
       ap (λ (x : List ℕ). not (eqb (get_or x i 0) 0)) kept
-      ∙ ap (λ (x : ℕ). not (eqb x 0)) (list_at (λ j. common_byte (get_or (all_edges (plate m)) j 0) (get_or st j 0)) _ i (rw (edges-long_lem m) l))
+      ∙ ap (λ (x : ℕ). not (eqb x 0)) (list_at (λ j. common_byte (get_or (all_edges (plate m)) j 0) (get_or st j 0)) _ i (rw (edges_long m) l))
       ∙ bit (eqb (get_or st i 0) 0) (get_or (all_edges (plate m)) i 0)
       ∙ ap (λ (e : Bool). cond (remaining st i) e false)
       (all_edges_lem (plate m) (lawful m) i ∙ edge_at m a b (record { up = h; marks = k }))
@@ -49,8 +49,8 @@ module _ (m : List ℤ) (st : List ℕ) {own : List ℕ} (kept : own ≡ common 
       bit true x = refl
       bit false x = refl
 
-  pub common-clean_lem : Clean m own
-  common-clean_lem = record { edges = λ a b h k r. second (remaining st (pair_number a b)) (empty_edge m a b) (sym (own_at a b h k) ∙ r) }
+  pub common_clean : Clean m own
+  common_clean = record { edges = λ a b h k r. second (remaining st (pair_number a b)) (empty_edge m a b) (sym (own_at a b h k) ∙ r) }
     where
       second : (x y : Bool) → cond x y false ≡ true → y ≡ true
       second true y e = e
@@ -71,11 +71,11 @@ module _ (m : List ℤ) (st : List ℕ) {own : List ℕ} (kept : own ≡ common 
 
       go : Dec (pair_number a b < pair_count (count m)) → cond (remaining own (pair_number a b)) (empty_edge m a b) false ≡ cond (remaining st (pair_number a b)) (empty_edge m a b) false
       go (yes l) =
-          let p = place m (pair_number a b) (sym (pair_at-number_lem a b h)) l in
+          let p = place m (pair_number a b) (sym (pair_at_number a b h)) l in
           ap (λ (x : Bool). cond x (empty_edge m a b) false) (own_at a b h p.mark) ∙ both (remaining st (pair_number a b)) (empty_edge m a b)
       go (no d) =
           let l : pair_count (count m) ≤ pair_number a b = omega arith in
-          ap (λ (x : Bool). cond x (empty_edge m a b) false) (past own common-long_lem l ∙ sym (past st long l))
+          ap (λ (x : Bool). cond x (empty_edge m a b) false) (past own common_long l ∙ sym (past st long l))
 
-  pub common-rows_lem : {d : List ℕ} → Rows m (edges_of m (remaining own)) d → Rows m (edges_of m (remaining st)) d
-  common-rows_lem = rows_same same
+  pub common_rows : {d : List ℕ} → Rows m (edges_of m (remaining own)) d → Rows m (edges_of m (remaining st)) d
+  common_rows = rows_same same

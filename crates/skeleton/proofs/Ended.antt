@@ -28,20 +28,20 @@ module _ (m : List ℤ) (st : List ℕ) (budget : ℕ) where
   it = search_result (plate m) budget
 
   -- ---- the status buffer
-  pub status-accepted_lem : search_refusal m st ≡ Accepted → status_after m st budget ≡ it.status
+  pub status_accepted : search_refusal m st ≡ Accepted → status_after m st budget ≡ it.status
   unfolding status_after bytes_after
-  status-accepted_lem e = ap (λ (v : Verdict). bytes_after v st (it)) e
+  status_accepted e = ap (λ (v : Verdict). bytes_after v st (it)) e
 
-  pub status-refused_lem : (x : Refusal) → search_refusal m st ≡ Refused x → status_after m st budget ≡ st
+  pub status_refused : (x : Refusal) → search_refusal m st ≡ Refused x → status_after m st budget ≡ st
   unfolding status_after bytes_after
-  status-refused_lem x e = ap (λ (v : Verdict). bytes_after v st (it)) e
+  status_refused x e = ap (λ (v : Verdict). bytes_after v st (it)) e
 
   -- ---- the outcome
   pub data Ended : Outcome → Type 0 where
     early : (x : Refusal) → search_refusal m st ≡ Refused x → Ended (Outcome.Refused x)
     at_end : search_refusal m st ≡ Accepted → it.outcome ≡ done → Ended (Done it.examinations)
     at_pause : search_refusal m st ≡ Accepted → it.outcome ≡ paused → Ended (Paused it.examinations)
-    at-answer8 :
+    at_answer8 :
         search_refusal m st ≡ Accepted → (i : ℕ) → it.outcome ≡ answer8 i →
         Ended (Outcome.Refused (record { number = 8; detail = i }))
 
@@ -49,52 +49,52 @@ module _ (m : List ℤ) (st : List ℕ) (budget : ℕ) where
   unfolding outcome_of outcome_after told
   ended = of_verdict (search_refusal m st) refl
     where
-      of-search :
+      of_search :
           search_refusal m st ≡ Accepted → (o : any.Outcome) → it.outcome ≡ o →
           Ended (told o it.examinations)
-      of-search ok done e = at_end ok e
-      of-search ok paused e = at_pause ok e
-      of-search ok (answer8 i) e = at-answer8 ok i e
+      of_search ok done e = at_end ok e
+      of_search ok paused e = at_pause ok e
+      of_search ok (answer8 i) e = at_answer8 ok i e
 
       of_verdict : (v : Verdict) → search_refusal m st ≡ v → Ended (outcome_after v (it))
       of_verdict (Refused x) e = early x e
-      of_verdict Accepted e = of-search e it.outcome refl
+      of_verdict Accepted e = of_search e it.outcome refl
 
   -- a search that was made: accepted, with the outcome o after e examinations
   abbrev Made : any.Outcome → ℕ → Type 0
   Made o e = (search_refusal m st ≡ Accepted) × (it.outcome ≡ o) × (it.examinations ≡ e)
 
-  pub done-search_lem : (e : ℕ) → outcome_of m st budget ≡ Done e → Made done e
-  done-search_lem e q = go ended q
+  pub done_search : (e : ℕ) → outcome_of m st budget ≡ Done e → Made done e
+  done_search e q = go ended q
     where
       go : {o : Outcome} → Ended o → o ≡ Done e → Made done e
       go (early x f) q = let z : ◌≡◌ {A = ℕ} 0 1 = cc in absurd (omega arith)
       go (at_end ok f) q = (ok, f, (cc))
       go (at_pause ok f) q = let z : ◌≡◌ {A = ℕ} 0 1 = cc in absurd (omega arith)
-      go (at-answer8 ok i f) q = let z : ◌≡◌ {A = ℕ} 0 1 = cc in absurd (omega arith)
+      go (at_answer8 ok i f) q = let z : ◌≡◌ {A = ℕ} 0 1 = cc in absurd (omega arith)
 
-  pub paused-search_lem : (e : ℕ) → outcome_of m st budget ≡ Paused e → Made paused e
-  paused-search_lem e q = go ended q
+  pub paused_search : (e : ℕ) → outcome_of m st budget ≡ Paused e → Made paused e
+  paused_search e q = go ended q
     where
       go : {o : Outcome} → Ended o → o ≡ Paused e → Made paused e
       go (early x f) q = let z : ◌≡◌ {A = ℕ} 0 1 = cc in absurd (omega arith)
       go (at_end ok f) q = let z : ◌≡◌ {A = ℕ} 0 1 = cc in absurd (omega arith)
       go (at_pause ok f) q = (ok, f, (cc))
-      go (at-answer8 ok i f) q = let z : ◌≡◌ {A = ℕ} 0 1 = cc in absurd (omega arith)
+      go (at_answer8 ok i f) q = let z : ◌≡◌ {A = ℕ} 0 1 = cc in absurd (omega arith)
 
   -- a refusal came before the search, or is its answer 8
   abbrev pub Reason : Refusal → Type 0
   Reason x =
       (search_refusal m st ≡ Refused x) ⊎ ((search_refusal m st ≡ Accepted) × (x.number ≡ 8) × (it.outcome ≡ answer8 x.detail))
 
-  pub refused-search_lem : (x : Refusal) → outcome_of m st budget ≡ Outcome.Refused x → Reason x
-  refused-search_lem x q = go ended q
+  pub refused_search : (x : Refusal) → outcome_of m st budget ≡ Outcome.Refused x → Reason x
+  refused_search x q = go ended q
     where
       go : {o : Outcome} → Ended o → o ≡ Outcome.Refused x → Reason x
       go (early y f) q = let e : y ≡ x = cc in inl (f ∙ ap Refused e)
       go (at_end ok f) q = let z : ◌≡◌ {A = ℕ} 0 1 = cc in absurd (omega arith)
       go (at_pause ok f) q = let z : ◌≡◌ {A = ℕ} 0 1 = cc in absurd (omega arith)
-      go (at-answer8 ok i f) q =
+      go (at_answer8 ok i f) q =
           let e : record { number = 8; detail = i } ≡ x = cc in
           inr (ok, sym (ap (λ (y : Refusal). y.number) e), f ∙ ap (λ (y : Refusal). answer8 y.detail) e)
 
@@ -110,7 +110,7 @@ module _ (m : List ℤ) (st : List ℕ) (budget : ℕ) where
       go (early y f) u = absurd (u y refl)
       go (at_end ok f) u = (ok, ap is_answer8 f)
       go (at_pause ok f) u = (ok, ap is_answer8 f)
-      go (at-answer8 ok i f) u = absurd (u _ refl)
+      go (at_answer8 ok i f) u = absurd (u _ refl)
 
 -- ---- a refusal among outcomes
 refused_in : (o : Outcome) (x : Refusal) → (refusal_in o ≡ Refused x) ↔ (o ≡ Outcome.Refused x)
@@ -143,22 +143,22 @@ shown_none (Done e) f = (λ q x h. let z : ◌≡◌ {A = ℕ} 0 1 = cc in absur
 shown_none (Paused e) f = (λ q x h. let z : ◌≡◌ {A = ℕ} 0 1 = cc in absurd (omega arith), λ u. refl)
 
 module _ (m : List ℤ) (st : List ℕ) (budget : ℕ) where
-  refused-lowest_lem : (x : Refusal) → (outcome_of m st budget ≡ Outcome.Refused x) ↔ Lowest (SearchRow m st budget) x
-  refused-lowest_lem x =
+  refused_lowest : (x : Refusal) → (outcome_of m st budget ≡ Outcome.Refused x) ↔ Lowest (SearchRow m st budget) x
+  refused_lowest x =
       let s = settled_exactly (search_settled m st budget) x in
       let r = refused_in (outcome_of m st budget) x in
       (λ e. s.0 (r.1 e), λ l. r.0 (s.1 l))
 
   numbered : (x : Refusal) → outcome_of m st budget ≡ Outcome.Refused x → 0 < x.number
-  numbered x e = search_row_positive m st budget _ _ ((refused-lowest_lem x).0 e).applies
+  numbered x e = search_row_positive m st budget _ _ ((refused_lowest x).0 e).applies
 
   shown_unrefused : ((shown_search m st budget).number ≡ 0) ↔ Unrefused (outcome_of m st budget)
   shown_unrefused = shown_none (outcome_of m st budget) numbered
 
-  pub search-refused_lem : (x : Refusal) → 0 < x.number → (shown_search m st budget ≡ x) ↔ Lowest (SearchRow m st budget) x
-  search-refused_lem x l =
+  pub search_refused : (x : Refusal) → 0 < x.number → (shown_search m st budget ≡ x) ↔ Lowest (SearchRow m st budget) x
+  search_refused x l =
       let s = shown_refused (outcome_of m st budget) x l in
-      let r = refused-lowest_lem x in
+      let r = refused_lowest x in
       (λ e. r.0 (s.0 e), λ h. s.1 (r.1 h))
 
   pub search_unrefused : ((shown_search m st budget).number ≡ 0) ↔ None (SearchRow m st budget)
@@ -174,7 +174,7 @@ module _ (m : List ℤ) (st : List ℕ) (budget : ℕ) where
 
   -- a number is shown: it came before the search, or is its answer 8
   pub shown_reason : 0 < (shown_search m st budget).number → Reason m st budget (shown_search m st budget)
-  shown_reason l = refused-search_lem m st budget _ ((shown_refused (outcome_of m st budget) _ l).0 refl)
+  shown_reason l = refused_search m st budget _ ((shown_refused (outcome_of m st budget) _ l).0 refl)
 
   -- done or paused, nothing is shown
   pub done_shows : (e : ℕ) → outcome_of m st budget ≡ Done e → (shown_search m st budget).number ≡ 0
@@ -186,10 +186,10 @@ module _ (m : List ℤ) (st : List ℕ) (budget : ℕ) where
   paused_shows e q = ap (λ (o : Outcome). (shown_outcome o).number) q
 
   -- without answer 8 the search was refused before it began, or is free of it
-  pub not-8 :
+  pub not_8 :
       ((shown_search m st budget).number ≡ 8 → ⊥) → search_refusal m st ≡ Accepted → is_answer8 (it m st budget).outcome ≡ false
   unfolding is_answer8 outcome_of outcome_after told shown_outcome
-  not-8 n ok = go (it m st budget).outcome refl
+  not_8 n ok = go (it m st budget).outcome refl
     where
       shows : (i : ℕ) → (it m st budget).outcome ≡ answer8 i → (shown_search m st budget).number ≡ 8
       shows i e =

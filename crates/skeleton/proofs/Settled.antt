@@ -68,19 +68,19 @@ settled_at (Refused y) =
 settled_at Accepted = free (λ n d e. not_accepted e)
 
 -- rows and later rows
-pub settled-or :
+pub settled_or :
     {R Q : ℕ → ℕ → Type 0} {v w : Verdict} → ((n d n' d' : ℕ) → R n d → Q n' d' → n < n') → Settled R v → Settled Q w →
     Settled (λ n d. R n d ⊎ Q n d) (or_else v w)
 unfolding or_else
-settled-or order (first y r before) s = first y (inl r) (λ n d p. ⊎_elim (before n d) (λ q. inl (order _ _ n d r q)) p)
-settled-or order (free none) (first y q before) = first y (inr q) (λ n d p. ⊎_elim (λ r. absurd (none n d r)) (before n d) p)
-settled-or order (free none) (free none') = free (λ n d p. ⊎_elim (none n d) (none' n d) p)
+settled_or order (first y r before) s = first y (inl r) (λ n d p. ⊎_elim (before n d) (λ q. inl (order _ _ n d r q)) p)
+settled_or order (free none) (first y q before) = first y (inr q) (λ n d p. ⊎_elim (λ r. absurd (none n d r)) (before n d) p)
+settled_or order (free none) (free none') = free (λ n d p. ⊎_elim (none n d) (none' n d) p)
 
 -- rows under another name
-pub settled-as :
+pub settled_as :
     {R Q : ℕ → ℕ → Type 0} {v : Verdict} → ((n d : ℕ) → R n d → Q n d) → ((n d : ℕ) → Q n d → R n d) → Settled R v → Settled Q v
-settled-as f g (first y r before) = first y (f _ _ r) (λ n d q. before n d (g n d q))
-settled-as f g (free none) = free (λ n d q. none n d (g n d q))
+settled_as f g (first y r before) = first y (f _ _ r) (λ n d q. before n d (g n d q))
+settled_as f g (free none) = free (λ n d q. none n d (g n d q))
 
 -- ---- a row that is one refusal: what holds of that holds of whatever the row gives
 pub from_refused : (R : ℕ → ℕ → Type 0) {k e n d : ℕ} → R k e → At (refused k e) n d → R n d

@@ -17,7 +17,7 @@ use Rattle.refusals.specs.declared.Verdict.{Verdict}
 use Rattle.refusals.specs.declared.Verdict.TheVariants.{Accepted, Refused}
 use Rattle.plane.specs.Marks.{Plate, count}
 use Rattle.pairs.specs.Pairs.{pair_count}
-use Rattle.refusals.proofs.Laws.{refused_exactly, row_small, row_positive, accepted-plate_lem}
+use Rattle.refusals.proofs.Laws.{refused_exactly, row_small, row_positive, accepted_plate}
 use Rattle.refusals.specs.Check.{refused, verdict}
 use Rattle.plane.proofs.Laws.Numbers.{first_at, first_past, Seek, found, nowhere, seek}
 use Rattle.plane.proofs.Laws.Tells.{cond_yes, cond_no}
@@ -30,11 +30,11 @@ use Rattle.certificates.specs.Plate.{plate}
 use Rattle.certificates.specs.Rule9.{IsPair}
 use Rattle.skeleton.specs.Answers.{or_else, buffer_row, is_above, first_above, byte_row, pair_row, search_refusal, request_refusal, told, outcome_after, outcome_of}
 use Rattle.skeleton.specs.Table.{SearchRow, RequestRow, list, buffer, byte, pair, uncrossed}
-use Rattle.skeleton.proofs.Settled.{not_accepted, or_first, or_second, At, Settled, settled_exactly, settled_none, settled_at, settled-or, settled-as, from_refused}
+use Rattle.skeleton.proofs.Settled.{not_accepted, or_first, or_second, At, Settled, settled_exactly, settled_none, settled_at, settled_or, settled_as, from_refused}
 
 -- ---- rows 1 to 4
-pub list-number_lem : (m : List ℤ) (n d : ℕ) → At (verdict m) n d → n ≤ 4
-list-number_lem m n d e = row_small m n d ((refused_exactly m n d).0 e).0
+pub list_number : (m : List ℤ) (n d : ℕ) → At (verdict m) n d → n ≤ 4
+list_number m n d e = row_small m n d ((refused_exactly m n d).0 e).0
 
 list_positive : (m : List ℤ) (n d : ℕ) → At (verdict m) n d → 0 < n
 list_positive m n d e = row_positive m n d ((refused_exactly m n d).0 e).0
@@ -45,11 +45,11 @@ module _ (m : List ℤ) (st : List ℕ) where
   unfolding buffer_row
   buffer_at h = cond_no _ _ (ne_eqb (length st) (pair_count (count m)) h)
 
-  at-buffer :
+  at_buffer :
       (R : ℕ → ℕ → Type 0) → ((length st ≡ pair_count (count m) → ⊥) → R 5 (pair_count (count m))) → (n d : ℕ) →
       At (buffer_row m st) n d → R n d
   unfolding buffer_row
-  at-buffer R f n d e = go (eqb (length st) (pair_count (count m))) refl e
+  at_buffer R f n d e = go (eqb (length st) (pair_count (count m))) refl e
     where
       go :
           (t : Bool) → eqb (length st) (pair_count (count m)) ≡ t → At (cond t Accepted (refused 5 (pair_count (count m)))) n d →
@@ -113,27 +113,27 @@ module _ (m : List ℤ) (st : List ℕ) where
   early_settled : Settled Early (search_refusal m st)
   unfolding search_refusal
   early_settled =
-      settled-or
-      (λ n d n' d' v w. let l = list-number_lem m n d v in let e = at-buffer m st (λ n d. n ≡ 5) (λ h. refl) n' d' w in omega arith)
+      settled_or
+      (λ n d n' d' v w. let l = list_number m n d v in let e = at_buffer m st (λ n d. n ≡ 5) (λ h. refl) n' d' w in omega arith)
       (settled_at (verdict m)) (settled_at (buffer_row m st))
 
   early_number : (n d : ℕ) → Early n d → n ≤ 5
-  early_number n d (inl v) = let l = list-number_lem m n d v in omega arith
-  early_number n d (inr w) = let e = at-buffer m st (λ n d. n ≡ 5) (λ h. refl) n d w in omega arith
+  early_number n d (inl v) = let l = list_number m n d v in omega arith
+  early_number n d (inr w) = let e = at_buffer m st (λ n d. n ≡ 5) (λ h. refl) n d w in omega arith
 
   pub refused_early : (x : Refusal) → search_refusal m st ≡ Refused x → x.number ≤ 5
   refused_early x e = early_number _ _ ((settled_exactly early_settled x).0 e).applies
 
-  pub accepted-long_lem : search_refusal m st ≡ Accepted → length st ≡ pair_count (count m)
-  accepted-long_lem e = go (ℕ_discrete (length st) (pair_count (count m)))
+  pub accepted_long : search_refusal m st ≡ Accepted → length st ≡ pair_count (count m)
+  accepted_long e = go (ℕ_discrete (length st) (pair_count (count m)))
     where
       go : Dec (length st ≡ pair_count (count m)) → length st ≡ pair_count (count m)
       go (yes h) = h
       go (no h) = absurd ((settled_none early_settled).0 e _ _ (inr (buffer_at m st h)))
 
-  pub accepted-list_lem : search_refusal m st ≡ Accepted → Plate m
+  pub accepted_list : search_refusal m st ≡ Accepted → Plate m
   unfolding search_refusal
-  accepted-list_lem e = accepted-plate_lem m (or_first (verdict m) (buffer_row m st) e)
+  accepted_list e = accepted_plate m (or_first (verdict m) (buffer_row m st) e)
 
 -- ---- the rows of a request
 module _ (m : List ℤ) (st : List ℕ) (a b : ℕ) where
@@ -160,15 +160,15 @@ module _ (m : List ℤ) (st : List ℕ) (a b : ℕ) where
   pub request_settled : Settled (RequestRow m st a b) (request_refusal m st a b)
   unfolding request_refusal
   request_settled =
-      settled-as row_of at_row
-      (settled-or (λ n d n' d' v w. let l = early_number m st n d v in let k = late_number n' d' w in omega arith)
+      settled_as row_of at_row
+      (settled_or (λ n d n' d' v w. let l = early_number m st n d v in let k = late_number n' d' w in omega arith)
       (early_settled m st)
-      (settled-or (λ n d n' d' v w. let e = six n d v in let f = seven n' d' w in omega arith)
+      (settled_or (λ n d n' d' v w. let e = six n d v in let f = seven n' d' w in omega arith)
       (settled_at (byte_row st)) (settled_at (pair_row m a b))))
     where
       row_of : (n d : ℕ) → Early m st n d ⊎ Late n d → RequestRow m st a b n d
       row_of n d (inl (inl v)) = list (record { number = n; detail = d }) v
-      row_of n d (inl (inr v)) = at-buffer m st (RequestRow m st a b) buffer n d v
+      row_of n d (inl (inr v)) = at_buffer m st (RequestRow m st a b) buffer n d v
       row_of n d (inr (inl v)) = at_byte st (RequestRow m st a b) byte n d v
       row_of n d (inr (inr v)) = at_pair m a b (RequestRow m st a b) pair n d v
 
@@ -192,10 +192,10 @@ module _ (m : List ℤ) (st : List ℕ) (budget : ℕ) where
   unfolding told refusal_in
   eight_at i e = ap (λ (o : any.Outcome). refusal_in (told o (search_result (plate m) budget).examinations)) e
 
-  at-eight :
+  at_eight :
       (R : ℕ → ℕ → Type 0) → ((i : ℕ) → (search_result (plate m) budget).outcome ≡ answer8 i → R 8 i) → (n d : ℕ) → At row8 n d → R n d
   unfolding told refusal_in
-  at-eight R f n d e = go (search_result (plate m) budget).outcome refl e
+  at_eight R f n d e = go (search_result (plate m) budget).outcome refl e
     where
       go :
           (o : any.Outcome) → (search_result (plate m) budget).outcome ≡ o →
@@ -213,15 +213,15 @@ module _ (m : List ℤ) (st : List ℕ) (budget : ℕ) where
   unfolding outcome_of
   search_settled =
       subst (Settled (SearchRow m st budget)) (in_outcome (search_refusal m st))
-      (settled-as row_of at_row
-      (settled-or
-      (λ n d n' d' v w. let l = early_number m st n d v in let e = at-eight (λ n d. n ≡ 8) (λ i h. refl) n' d' w in omega arith)
+      (settled_as row_of at_row
+      (settled_or
+      (λ n d n' d' v w. let l = early_number m st n d v in let e = at_eight (λ n d. n ≡ 8) (λ i h. refl) n' d' w in omega arith)
       (early_settled m st) (settled_at row8)))
     where
       row_of : (n d : ℕ) → Early m st n d ⊎ At row8 n d → SearchRow m st budget n d
       row_of n d (inl (inl v)) = list (record { number = n; detail = d }) v
-      row_of n d (inl (inr v)) = at-buffer m st (SearchRow m st budget) buffer n d v
-      row_of n d (inr v) = at-eight (SearchRow m st budget) uncrossed n d v
+      row_of n d (inl (inr v)) = at_buffer m st (SearchRow m st budget) buffer n d v
+      row_of n d (inr v) = at_eight (SearchRow m st budget) uncrossed n d v
 
       at_row : (n d : ℕ) → SearchRow m st budget n d → Early m st n d ⊎ At row8 n d
       at_row n d (list x e) = inl (inl e)

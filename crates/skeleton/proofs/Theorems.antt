@@ -5,9 +5,9 @@
 --
 -- What shuts out the four empty programs of 01:
 --   one that refuses always                                  `refused_exactly`, `unrefused_exactly`, `answer_exactly`
---   one that calls every edge possible                       `done-certain`, `done_impossible`, `hull_certain`
+--   one that calls every edge possible                       `done_certain`, `done_impossible`, `hull_certain`
 --   one that writes no status                                the same, since they speak of the buffer's bytes when the search returns
---   one that runs to the end under any budget, or invents E  `paused-spent`, `few-examinations_lem`; and `outcome_of` is the search
+--   one that runs to the end under any budget, or invents E  `paused_spent`, `few_examinations`; and `outcome_of` is the search
 --                                                            step by step
 -- Assumes nothing.
 use mathlib.Core.Path.{◌≡◌, refl, sym, ap, ◌∙◌, subst}
@@ -24,7 +24,7 @@ use Rattle.refusals.specs.declared.Verdict.TheVariants.{Accepted, Refused}
 use Rattle.plane.specs.Marks.{IsMark}
 use Rattle.pairs.specs.Pairs.{pair_number}
 use Rattle.plane.specs.Hull.{hull_edge, inner_edge}
-use Rattle.plane.proofs.Laws.Hull.{hull-uncrossed_lem}
+use Rattle.plane.proofs.Laws.Hull.{hull_uncrossed}
 use Rattle.striking.specs.Search.{answer8, search_result}
 use Rattle.striking.proofs.Tests.{same_test}
 use Rattle.striking.proofs.Theorems as striking
@@ -38,23 +38,23 @@ use Rattle.certificates.specs.Rule9.{IsPair, Kept, LocallyMinimal, Largest, ampl
 use Rattle.skeleton.specs.Answers.{search_refusal, answer_of, outcome_after, outcome_of, bytes_after, status_after, byte_after, remaining_edges}
 use Rattle.skeleton.specs.Answers.{shown_request, shown_search}
 use Rattle.skeleton.specs.Table.{SearchRow, RequestRow, Lowest, None, IsAnswer}
-use Rattle.certificates.proofs.Rule7.{fits-certificate_lem, certificate-fits_lem}
-use Rattle.certificates.proofs.First.{nothing-none_lem, found_first, first_found, none-nothing_lem}
+use Rattle.certificates.proofs.Rule7.{fits_certificate, certificate_fits}
+use Rattle.certificates.proofs.First.{nothing_none, found_first, first_found, none_nothing}
 use Rattle.certificates.proofs.Lawful.{lawful}
 use Rattle.certificates.proofs.Pairs.{pair_first, number_in, minimal_numbers, largest_pairs}
 use Rattle.certificates.proofs.Counting.{ample_is}
-use Rattle.skeleton.proofs.Table.{refused_early, accepted-long_lem}
+use Rattle.skeleton.proofs.Table.{refused_early, accepted_long}
 use Rattle.skeleton.proofs.Answer.{is_answer, the_answer, shown_lowest, shown_nothing, answer_moved}
-use Rattle.skeleton.proofs.Ended.{status-accepted_lem, status-refused_lem, search-refused_lem, search_unrefused, shown_reason, done_shows, not-8}
-use Rattle.skeleton.proofs.Ended.{done-search_lem, paused-search_lem}
-use Rattle.skeleton.proofs.Statuses.{byte_zero, byte_one, byte_two, byte_three, hull_in, due-pair_lem, answer8_named}
+use Rattle.skeleton.proofs.Ended.{status_accepted, status_refused, search_refused, search_unrefused, shown_reason, done_shows, not_8}
+use Rattle.skeleton.proofs.Ended.{done_search, paused_search}
+use Rattle.skeleton.proofs.Statuses.{byte_zero, byte_one, byte_two, byte_three, hull_in, due_pair, answer8_named}
 
 -- ---- rules 7 and 8
 
 module _ (m : List ℤ) (K : ℕ → ℕ → Bool) (p q : ℕ) where
   -- Rule 7: the test of two marks is the sentence.
   pub fits_exactly : (r s : ℕ) → IsMark m r → IsMark m s → (fits m K p q r s ≡ true) ↔ IsCertificate m K p q r s
-  fits_exactly r s r-in s-in = (fits-certificate_lem m K p q r s r-in s-in, certificate-fits_lem m K p q)
+  fits_exactly r s r-in s-in = (fits_certificate m K p q r s r-in s-in, certificate_fits m K p q)
 
   -- Rule 8: what is picked is "that with the smallest r, then the smallest s".
   pub first_exactly : (r s : ℕ) → (first_certificate m K p q ≡ Apexes r s) ↔ IsFirst m K p q r s
@@ -62,7 +62,7 @@ module _ (m : List ℤ) (K : ℕ → ℕ → Bool) (p q : ℕ) where
 
   -- Nothing is picked exactly if there is no certificate.
   pub nothing_exactly : (first_certificate m K p q ≡ Nothing) ↔ (HasCertificate m K p q → ⊥)
-  nothing_exactly = (nothing-none_lem m K p q, none-nothing_lem m K p q)
+  nothing_exactly = (nothing_none m K p q, none_nothing m K p q)
 
 -- ---- rule 9
 
@@ -77,9 +77,9 @@ one_largest {m} {K} {K'} l l' a b p =
 
 module _ (m : List ℤ) (st : List ℕ) (a b : ℕ) where
   -- "Given exactly when"; "The lowest number that applies is given", with its detail. A request is refused exactly if a row applies.
-  pub request-refused-exactly :
+  pub request_refused_exactly :
       (x : Refusal) → 0 < x.number → (shown_request m st a b ≡ x) ↔ Lowest (RequestRow m st a b) x
-  request-refused-exactly = shown_lowest m st a b
+  request_refused_exactly = shown_lowest m st a b
 
   pub request_unrefused_exactly : ((shown_request m st a b).number ≡ 0) ↔ None (RequestRow m st a b)
   request_unrefused_exactly = shown_nothing m st a b
@@ -90,10 +90,10 @@ module _ (m : List ℤ) (st : List ℕ) (a b : ℕ) where
   answer_exactly x = (λ e. subst (IsAnswer m st a b) e (the_answer m st a b), is_answer m st a b)
 
 -- "Beyond answer 6, the byte of (a, b) itself plays no part."
-pub own-byte :
+pub own_byte :
     (m : List ℤ) (st st' : List ℕ) (a b : ℕ) → ((i : ℕ) → (i ≡ pair_number a b → ⊥) → get_or st i 0 ≡ get_or st' i 0) →
     None (RequestRow m st a b) → None (RequestRow m st' a b) → answer_of m st a b ≡ answer_of m st' a b
-own-byte m st st' a b agree n n' = sym (is_answer m st' a b (answer_moved m st st' a b agree n n' (the_answer m st a b)))
+own_byte m st st' a b agree n n' = sym (is_answer m st' a b (answer_moved m st st' a b agree n n' (the_answer m st a b)))
 
 -- ---- the search
 
@@ -102,7 +102,7 @@ module _ (m : List ℤ) (st : List ℕ) (budget : ℕ) where
 
   -- "Given exactly when"; "The lowest number that applies is given", with its detail.
   pub refused_exactly : (x : Refusal) → 0 < x.number → (shown_search m st budget ≡ x) ↔ Lowest (SearchRow m st budget) x
-  refused_exactly = search-refused_lem m st budget
+  refused_exactly = search_refused m st budget
 
   -- No number is given exactly if no row applies.
   pub unrefused_exactly : ((shown_search m st budget).number ≡ 0) ↔ None (SearchRow m st budget)
@@ -111,20 +111,20 @@ module _ (m : List ℤ) (st : List ℕ) (budget : ℕ) where
   -- ---- the status buffer
 
   -- Its length stays.
-  pub status-length_lem : length (status_after m st budget) ≡ length st
+  pub status-length : length (status_after m st budget) ≡ length st
   unfolding plate
-  status-length_lem = go (search_refusal m st) refl
+  status-length = go (search_refusal m st) refl
     where
       go : (v : Verdict) → search_refusal m st ≡ v → length (status_after m st budget) ≡ length st
-      go (Refused x) e = ap length (status-refused_lem m st budget x e)
+      go (Refused x) e = ap length (status_refused m st budget x e)
       go Accepted e =
-          ap length (status-accepted_lem m st budget e) ∙ striking.status-length_lem (plate m) (lawful m) budget ∙
-          sym (accepted-long_lem m st e)
+          ap length (status_accepted m st budget e) ∙ striking.status-length (plate m) (lawful m) budget ∙
+          sym (accepted_long m st e)
 
   -- "After 1 to 7 the status buffer holds what it held before."
   pub refused_keeps : 0 < (shown_search m st budget).number → (shown_search m st budget).number ≤ 7 → status_after m st budget ≡ st
   refused_keeps p l =
-      ⊎_elim (λ r. status-refused_lem m st budget _ r) (λ r. let n = r.1 in absurd (let z : ⊥ = omega arith in z))
+      ⊎_elim (λ r. status_refused m st budget _ r) (λ r. let n = r.1 in absurd (let z : ⊥ = omega arith in z))
       (shown_reason m st budget p)
 
   -- Of an answer 8:
@@ -138,16 +138,16 @@ module _ (m : List ℤ) (st : List ℕ) (budget : ℕ) where
     pub answer8_bytes : status_after m st budget ≡ replicate (length st) 255
     unfolding plate
     answer8_bytes =
-        status-accepted_lem m st budget search8.0 ∙
+        status_accepted m st budget search8.0 ∙
         striking.answer8_bytes (plate m) (lawful m) budget _ search8.1 ∙
-        ap (λ (k : ℕ). replicate k 255) (sym (accepted-long_lem m st search8.0))
+        ap (λ (k : ℕ). replicate k 255) (sym (accepted_long m st search8.0))
 
     -- Its detail is the number of an inner edge that has no certificate and is "crossed by nothing remaining".
-    pub answer8-names :
+    pub answer8_names :
         (a : ℕ) × (b : ℕ) × IsPair m a b × ((shown_search m st budget).detail ≡ pair_number a b) × (inner_edge m a b ≡ true) ×
         (HasCertificate m (remaining_edges m budget) a b → ⊥) ×
         ((c d : ℕ) → Kept m (remaining_edges m budget) c d → crossing m a b c d ≡ false)
-    answer8-names = answer8_named m budget _ search8.1
+    answer8_names = answer8_named m budget _ search8.1
 
   -- Of a search that is not refused, for each pair:
   module _ (u : (shown_search m st budget).number ≡ 0) (a b : ℕ) (p : IsPair m a b) where
@@ -160,36 +160,36 @@ module _ (m : List ℤ) (st : List ℕ) (budget : ℕ) where
     impossible_exactly = byte_zero m st budget u a b
 
     -- remaining and crossed by no other remaining edge is 2; (that it is another needs no word, since no edge crosses itself)
-    pub certain-exactly :
+    pub certain_exactly :
         (byte_after m st budget a b ≡ 2) ↔
         ((remaining_edges m budget a b ≡ true) × ((c d : ℕ) → Kept m (remaining_edges m budget) c d → crossing m a b c d ≡ false))
-    certain-exactly = byte_two m st budget u a b p
+    certain_exactly = byte_two m st budget u a b p
 
     -- any other is 1."
-    pub possible-exactly :
+    pub possible_exactly :
         (byte_after m st budget a b ≡ 1) ↔
         ((remaining_edges m budget a b ≡ true) ×
         ((c : ℕ) × (d : ℕ) × Kept m (remaining_edges m budget) c d × (crossing m a b c d ≡ true)))
-    possible-exactly = byte_one m st budget u a b p
+    possible_exactly = byte_one m st budget u a b p
 
     -- A hull edge is certain, whatever the budget.
     pub hull_certain : hull_edge m a b ≡ true → byte_after m st budget a b ≡ 2
     hull_certain h =
-        certain-exactly.1
-        (hull_in m budget a b p h, λ c d k. hull-uncrossed_lem m a b c d h (pair_first k.pair) k.pair.marks)
+        certain_exactly.1
+        (hull_in m budget a b p h, λ c d k. hull_uncrossed m a b c d h (pair_first k.pair) k.pair.marks)
 
   -- ---- demand 2
 
   -- Of a search that is done:
   module _ (e : ℕ) (q : outcome_of m st budget ≡ Done e) where
     -- "At done, the remaining set is the largest set that holds the hull edges and in which each inner edge has a certificate."
-    pub done-largest_lem : Largest m (remaining_edges m budget)
-    done-largest_lem = largest_pairs (striking.done-largest_lem (plate m) (lawful m) budget (done-search_lem m st budget e q).1)
+    pub done_largest : Largest m (remaining_edges m budget)
+    done_largest = largest_pairs (striking.done_largest (plate m) (lawful m) budget (done_search m st budget e q).1)
 
     -- So the bytes tell that set, and nothing of how it was found. Where K is the largest set,
     module _ (K : ℕ → ℕ → Bool) (l : Largest m K) (a b : ℕ) (p : IsPair m a b) where
       same : (c d : ℕ) → IsPair m c d → K c d ≡ remaining_edges m budget c d
-      same = one_largest l done-largest_lem
+      same = one_largest l done_largest
 
       in_rest : {c d : ℕ} → Kept m K c d → Kept m (remaining_edges m budget) c d
       in_rest {c} {d} k = record { pair = k.pair; kept = sym (same c d k.pair) ∙ k.kept }
@@ -207,20 +207,20 @@ module _ (m : List ℤ) (st : List ℕ) (budget : ℕ) where
           (λ h. same a b p ∙ x.0 h, λ h. x.1 (sym (same a b p) ∙ h))
 
       -- "what nothing remaining crosses is certain",
-      pub done-certain :
+      pub done_certain :
           (byte_after m st budget a b ≡ 2) ↔ ((K a b ≡ true) × ((c d : ℕ) → Kept m K c d → crossing m a b c d ≡ false))
-      done-certain =
-          let x = certain-exactly shows a b p in (
+      done_certain =
+          let x = certain_exactly shows a b p in (
             λ h. (let r = x.0 h in (same a b p ∙ r.0, λ c d k. r.1 c d (in_rest k))),
             λ h. x.1 (sym (same a b p) ∙ h.0, λ c d k. h.1 c d (in_largest k)),
           )
 
       -- and any other is 1.
-      pub done-possible :
+      pub done_possible :
           (byte_after m st budget a b ≡ 1) ↔
           ((K a b ≡ true) × ((c : ℕ) × (d : ℕ) × Kept m K c d × (crossing m a b c d ≡ true)))
-      done-possible =
-          let x = possible-exactly shows a b p in (
+      done_possible =
+          let x = possible_exactly shows a b p in (
             λ h. (let r = x.0 h in (same a b p ∙ r.0, (r.1.0, r.1.1, in_largest r.1.2, r.1.3))),
             λ h. x.1 (sym (same a b p) ∙ h.0, (h.1.0, h.1.1, in_rest h.1.2, h.1.3)),
           )
@@ -234,21 +234,21 @@ module _ (m : List ℤ) (st : List ℕ) (budget : ℕ) where
     certain_in_every h =
         sym (number_in m K a b p) ∙
         striking.certain_in_every (plate m) (lawful m) budget (minimal_numbers t) (pair_number a b)
-        (rw (status-accepted_lem m st budget made) at h)
+        (rw (status_accepted m st budget made) at h)
 
     -- and a 0 in none.
     pub impossible_in_none : byte_after m st budget a b ≡ 0 → K a b ≡ false
     impossible_in_none h =
         sym (number_in m K a b p) ∙
         striking.impossible_in_none (plate m) (lawful m) budget (minimal_numbers t) (pair_number a b)
-        (rw (status-accepted_lem m st budget made) at h)
+        (rw (status_accepted m st budget made) at h)
 
   -- "With m inner edges a search ends within m(m+1)/2 examinations"; and E, done or paused, is within the budget.
-  pub few-examinations_lem :
+  pub few_examinations :
       (e : ℕ) → (outcome_of m st budget ≡ Done e) ⊎ (outcome_of m st budget ≡ Paused e) → (e ≤ ample m) × (e ≤ budget)
-  few-examinations_lem e o =
-      let i = ⊎_elim (λ q. (done-search_lem m st budget e q).2) (λ q. (paused-search_lem m st budget e q).2) o in
-      let l = striking.few-examinations_lem (plate m) (lawful m) budget in
+  few_examinations e o =
+      let i = ⊎_elim (λ q. (done_search m st budget e q).2) (λ q. (paused_search m st budget e q).2) o in
+      let l = striking.few_examinations (plate m) (lawful m) budget in
       let k = striking.within_budget (plate m) (lawful m) budget in
       let s = ample_is m in
       (omega arith, omega arith)
@@ -257,18 +257,18 @@ module _ (m : List ℤ) (st : List ℕ) (budget : ℕ) where
   pub never_pauses : ample m ≤ budget → (e : ℕ) → outcome_of m st budget ≡ Paused e → ⊥
   never_pauses l e q =
       striking.never_pauses (plate m) (lawful m) budget (subst (λ (k : ℕ). k ≤ budget) (ample_is m) l)
-      (paused-search_lem m st budget e q).1
+      (paused_search m st budget e q).1
 
   -- "The search pauses when an examination is due and the budget is spent": E is the budget, and some inner edge remains.
-  pub paused-spent :
+  pub paused_spent :
       (e : ℕ) → outcome_of m st budget ≡ Paused e →
       (e ≡ budget) × ((a : ℕ) × (b : ℕ) × Kept m (remaining_edges m budget) a b × (inner_edge m a b ≡ true))
-  paused-spent e q =
-      let d = paused-search_lem m st budget e q in
-      let r = striking.paused-due (plate m) (lawful m) budget d.1 in
+  paused_spent e q =
+      let d = paused_search m st budget e q in
+      let r = striking.paused_due (plate m) (lawful m) budget d.1 in
       let i = d.2 in
       let b = r.0 in
-      (omega arith, due-pair_lem m budget r.1.0 r.1.2)
+      (omega arith, due_pair m budget r.1.0 r.1.2)
 
 -- Of two budgets:
 module _ (m : List ℤ) (st : List ℕ) (budget budget' : ℕ) (l : budget ≤ budget') where
@@ -279,39 +279,39 @@ module _ (m : List ℤ) (st : List ℕ) (budget budget' : ℕ) (l : budget ≤ b
     i = pair_number a b
 
     -- where the list or the buffer is refused, both leave the byte that was there
-    by-verdict :
+    by_verdict :
         (x : ℕ) → (search_refusal m st ≡ Accepted → byte_after m st budget a b ≡ x → byte_after m st budget' a b ≡ x) →
         byte_after m st budget a b ≡ x → byte_after m st budget' a b ≡ x
-    by-verdict x made h = go (search_refusal m st) refl
+    by_verdict x made h = go (search_refusal m st) refl
       where
         go : (v : Verdict) → search_refusal m st ≡ v → byte_after m st budget' a b ≡ x
         go (Refused y) e =
-            ap (λ (s : List ℕ). get_or s i 0) (status-refused_lem m st budget' y e ∙ sym (status-refused_lem m st budget y e)) ∙ h
+            ap (λ (s : List ℕ). get_or s i 0) (status_refused m st budget' y e ∙ sym (status_refused m st budget y e)) ∙ h
         go Accepted e = made e h
 
     -- every 2
     pub certain_stays : byte_after m st budget a b ≡ 2 → byte_after m st budget' a b ≡ 2
     certain_stays =
-        by-verdict 2 (λ ok h.
-        rw (status-accepted_lem m st budget' ok)
-        (striking.certain_stays (plate m) (lawful m) budget budget' l (not-8 m st budget n ok) (not-8 m st budget' n' ok) i
-        (rw (status-accepted_lem m st budget ok) at h)))
+        by_verdict 2 (λ ok h.
+        rw (status_accepted m st budget' ok)
+        (striking.certain_stays (plate m) (lawful m) budget budget' l (not_8 m st budget n ok) (not_8 m st budget' n' ok) i
+        (rw (status_accepted m st budget ok) at h)))
 
     -- and every 0.
     pub impossible_stays : byte_after m st budget a b ≡ 0 → byte_after m st budget' a b ≡ 0
     impossible_stays =
-        by-verdict 0 (λ ok h.
-        rw (status-accepted_lem m st budget' ok)
-        (striking.impossible_stays (plate m) (lawful m) budget budget' l (not-8 m st budget n ok) (not-8 m st budget' n' ok) i
-        (rw (status-accepted_lem m st budget ok) at h)))
+        by_verdict 0 (λ ok h.
+        rw (status_accepted m st budget' ok)
+        (striking.impossible_stays (plate m) (lawful m) budget budget' l (not_8 m st budget n ok) (not_8 m st budget' n' ok) i
+        (rw (status_accepted m st budget ok) at h)))
 
   -- A search that was done is done under every larger budget, after as many examinations and with the same bytes.
-  pub done-stays :
+  pub done_stays :
       (e : ℕ) → outcome_of m st budget ≡ Done e →
       (outcome_of m st budget' ≡ Done e) × (status_after m st budget' ≡ status_after m st budget)
   unfolding outcome_of status_after
-  done-stays e q =
-      let d = (done-search_lem m st budget e q).1 in
+  done_stays e q =
+      let d = (done_search m st budget e q).1 in
       let s =
       striking.unpaused_stays (plate m) (lawful m) budget budget' l
       (λ f. let z : ◌≡◌ {A = ℕ} 0 1 = cc (d, f) in absurd (omega arith)) in

@@ -14,27 +14,27 @@ use Rattle.striking.specs.Demands.{Supported, Largest, LocallyMinimal}
 use Rattle.striking.proofs.Tests.{not_both, is_true, is_false, same_test}
 use Rattle.striking.proofs.Remaining.{all_edges_lem}
 use Rattle.striking.proofs.System.{is_due, crossed_by}
-use Rattle.striking.proofs.Strikes.{struck_less, hull-stays, supported_stays}
+use Rattle.striking.proofs.Strikes.{struck_less, hull_stays, supported_stays}
 use Rattle.striking.proofs.Runs.{AllVouched}
 use Rattle.striking.proofs.Bytes.{byte_zero, byte_two}
 
 module _ (y : System) (law : Lawful y) {st : List ℕ} (p : Struck y (all_edges y) st) where
-  pub rest-edges_lem : Within (remaining st) y.edge
-  rest-edges_lem i h = sym (all_edges_lem y law i) ∙ struck_less p i h
+  pub rest_edges : Within (remaining st) y.edge
+  rest_edges i h = sym (all_edges_lem y law i) ∙ struck_less p i h
 
   pub rest_below : (i : ℕ) → remaining st i ≡ true → i < y.size
-  rest_below i h = law.edges-below_lem i (rest-edges_lem i h)
+  rest_below i h = law.edges_below i (rest_edges i h)
 
   supported_rests : {S : ℕ → Bool} → Supported y S → Within S (remaining st)
   supported_rests s = supported_stays law s p (λ i h. all_edges_lem y law i ∙ s.edges i h)
 
   -- ---- demand 2
-  pub rest-largest_lem : Supported y (remaining st) → Largest y (remaining st)
-  rest-largest_lem s =
-      record { supported = s; hull = λ i h k. hull-stays p i (all_edges_lem y law i ∙ h) k; largest = λ S t. supported_rests t }
+  pub rest_largest : Supported y (remaining st) → Largest y (remaining st)
+  rest_largest s =
+      record { supported = s; hull = λ i h k. hull_stays p i (all_edges_lem y law i ∙ h) k; largest = λ S t. supported_rests t }
 
-  pub rest-supported_lem : AllVouched y y.size (remaining st) → Supported y (remaining st)
-  rest-supported_lem v = record { edges = rest-edges_lem; vouched = λ i h k. v i (rest_below i h) (is_due y (remaining st) i h k) }
+  pub rest_supported : AllVouched y y.size (remaining st) → Supported y (remaining st)
+  rest_supported v = record { edges = rest_edges; vouched = λ i h k. v i (rest_below i h) (is_due y (remaining st) i h k) }
 
   -- ---- demand 3
   module _ {T : ℕ → Bool} (t : LocallyMinimal y T) where
@@ -46,7 +46,7 @@ module _ (y : System) (law : Lawful y) {st : List ℕ} (p : Struck y (all_edges 
       where
         hit : T i ≡ false → crossed y (remaining st) i ≡ true
         hit f =
-            let r = t.triangulation.full i (rest-edges_lem i h) f in
+            let r = t.triangulation.full i (rest_edges i h) f in
             let k = minimal_rests r.0 r.1 in
             crossed_by y (remaining st) i r.0 (rest_below r.0 k) k r.2
 

@@ -37,10 +37,10 @@ module _ (f : ℕ → Bool) where
 
 -- ---- a value for each number below n
 module _ (f : ℕ → ℕ) where
-  pub length-list_lem : (n : ℕ) → length (list_below n f) ≡ n
+  pub length_list : (n : ℕ) → length (list_below n f) ≡ n
   unfolding list_below
-  length-list_lem zero = refl
-  length-list_lem (suc n) = length-append (list_below n f) (f n ∷ []) ∙ (let e = length-list_lem n in omega arith)
+  length_list zero = refl
+  length_list (suc n) = length-append (list_below n f) (f n ∷ []) ∙ (let e = length_list n in omega arith)
 
   pub list_at : (n i : ℕ) → i < n → get_or (list_below n f) i 0 ≡ f i
   unfolding list_below
@@ -48,10 +48,10 @@ module _ (f : ℕ → ℕ) where
   list_at (suc n) i l = ⊎_elim last (λ l'. before l' (list_at n i l')) (eq-or-lt_of_le (le_of_suc-le-suc l))
     where
       last : i ≡ n → get_or (list_below n f ++ f n ∷ []) i 0 ≡ f i
-      last e = get_or_at (list_below n f) (f n) [] 0 i (length-list_lem n ∙ sym e) ∙ ap f (sym e)
+      last e = get_or_at (list_below n f) (f n) [] 0 i (length_list n ∙ sym e) ∙ ap f (sym e)
 
       before : i < n → get_or (list_below n f) i 0 ≡ f i → get_or (list_below n f ++ f n ∷ []) i 0 ≡ f i
-      before l' ih = get_or-append (list_below n f) (f n ∷ []) 0 i (rw (length-list_lem n) l') ∙ ih
+      before l' ih = get_or-append (list_below n f) (f n ∷ []) 0 i (rw (length_list n) l') ∙ ih
 
   pub list_past : (n i : ℕ) → n ≤ i → get_or (list_below n f) i 0 ≡ 0
-  list_past n i l = get_or-eq_default (list_below n f) 0 (rw (length-list_lem n) l)
+  list_past n i l = get_or-eq_default (list_below n f) 0 (rw (length_list n) l)

@@ -64,9 +64,9 @@ module _ (y : System) (S : ℕ → Bool) (below : (i : ℕ) → S i ≡ true →
   byte_three i = rw (byte_is i) (by_three (S i) (crossed y S i))
 
   -- the bytes that are not 0 are the set
-  pub byte-set_lem : (i : ℕ) → remaining (statuses y S) i ≡ S i
+  pub byte-set : (i : ℕ) → remaining (statuses y S) i ≡ S i
   unfolding statuses status_byte
-  byte-set_lem = listed y.size (status_byte y S) S (λ i. bit (S i) (crossed y S i)) below
+  byte-set = listed y.size (status_byte y S) S (λ i. bit (S i) (crossed y S i)) below
     where
       bit : (a b : Bool) → not (eqb (by_both a b) 0) ≡ a
       bit true true = refl

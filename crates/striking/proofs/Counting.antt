@@ -25,10 +25,10 @@ module _ (f : ℕ → Bool) where
       go true q = (omega (arith, count_yes n q), omega (arith, count_yes n q))
       go false q = (omega (arith, count_no n q), omega (arith, count_no n q))
 
-  pub count-up_lem : (i n : ℕ) → i ≤ n → count_below i f ≤ count_below n f
-  count-up_lem i zero l = let e : i ≡ 0 = omega arith in rw e (omega arith)
-  count-up_lem i (suc n) l =
-      ⊎_elim (λ e. rw e (omega arith)) (λ l'. omega (arith, count-up_lem i n (le_of_suc-le-suc l'), (count_step n).0)) (eq-or-lt_of_le l)
+  pub count_up : (i n : ℕ) → i ≤ n → count_below i f ≤ count_below n f
+  count_up i zero l = let e : i ≡ 0 = omega arith in rw e (omega arith)
+  count_up i (suc n) l =
+      ⊎_elim (λ e. rw e (omega arith)) (λ l'. omega (arith, count_up i n (le_of_suc-le-suc l'), (count_step n).0)) (eq-or-lt_of_le l)
 
   pub count_small : (n : ℕ) → count_below n f ≤ n
   unfolding count_below
@@ -57,9 +57,9 @@ module _ (f g : ℕ → Bool) where
 
   -- one fewer, where g is f without i
   module _ (i : ℕ) (p : f i ≡ true) (q : g i ≡ false) (h : (j : ℕ) → (j ≡ i → ⊥) → f j ≡ g j) where
-    pub count-drop_lem : (n : ℕ) → i < n → count_below n f ≡ suc (count_below n g)
-    count-drop_lem zero l = absurd (not-suc-le-zero l)
-    count-drop_lem (suc n) l = ⊎_elim at_last (λ l'. before l' (count-drop_lem n l')) (eq-or-lt_of_le (le_of_suc-le-suc l))
+    pub count-drop : (n : ℕ) → i < n → count_below n f ≡ suc (count_below n g)
+    count-drop zero l = absurd (not-suc-le-zero l)
+    count-drop (suc n) l = ⊎_elim at_last (λ l'. before l' (count-drop n l')) (eq-or-lt_of_le (le_of_suc-le-suc l))
       where
         apart : (j : ℕ) → j < n → i ≡ n → j ≡ i → ⊥
         apart j l e d = omega arith

@@ -14,10 +14,10 @@ use Rattle.striking.specs.Status.{remaining, all_edges}
 use Rattle.striking.specs.Search.{Outcome, done, paused, answer8, Final, State, search_from}
 use Rattle.striking.specs.Demands.{ample}
 use Rattle.striking.proofs.Tests.{not_both, is_false}
-use Rattle.striking.proofs.Counting.{count_yes, count_no, count_le, count_same, count-drop_lem, count-up_lem, count_small}
-use Rattle.striking.proofs.Sums.{sum_to, sum_below, sum_suc, sum_last, sum-up_lem, sum_half}
+use Rattle.striking.proofs.Counting.{count_yes, count_no, count_le, count_same, count-drop, count_up, count_small}
+use Rattle.striking.proofs.Sums.{sum_to, sum_below, sum_suc, sum_last, sum_up, sum_half}
 use Rattle.striking.proofs.Remaining.{struck_gone, others_stay}
-use Rattle.striking.proofs.System.{due_in, due-inner_lem}
+use Rattle.striking.proofs.System.{due_in, due_inner}
 use Rattle.striking.proofs.Steps.{Turn, passes, pauses, keeps, strikes, answers8}
 use Rattle.striking.proofs.Invariants.{At, Invariant, search_keeps}
 
@@ -45,7 +45,7 @@ module _ (y : System) (i : ℕ) (st : List ℕ) (d : due y (remaining st) i ≡ 
   others j n = ap (λ (b : Bool). cond b (y.inner j) false) (sym (others_stay st i j n))
 
   one_fewer : i < y.size → inner_in y y.size (remaining st) ≡ suc (inner_in y y.size (remaining (set st i 0)))
-  one_fewer l = count-drop_lem (due y (remaining st)) (due y (remaining (set st i 0))) i d gone others y.size l
+  one_fewer l = count-drop (due y (remaining st)) (due y (remaining (set st i 0))) i d gone others y.size l
 
   as_many_before : inner_in y (suc i) (remaining (set st i 0)) ≡ inner_in y i (remaining st)
   as_many_before =
@@ -71,46 +71,46 @@ module _ (y : System) (budget bound : ℕ) where
   abbrev pub Spent : Final → Type 0
   Spent h = SpentAt h.outcome h.examinations h.rest
 
-  due-counts :
+  due_counts :
       (i : ℕ) (st : List ℕ) → i < y.size → due y (remaining st) i ≡ true →
       inner_in y i (remaining st) < inner_in y y.size (remaining st)
-  due-counts i st l d = omega (arith, count_yes (due y (remaining st)) i d, count-up_lem (due y (remaining st)) (suc i) y.size l)
+  due_counts i st l d = omega (arith, count_yes (due y (remaining st)) i d, count_up (due y (remaining st)) (suc i) y.size l)
 
-  bounded-strike :
+  bounded_strike :
       (i : ℕ) {struck : Bool} {e : ℕ} {st : List ℕ} → i < y.size → Bounded i struck e st → due y (remaining st) i ≡ true →
       Bounded (suc i) true (e + 1) (set st i 0)
   unfolding later
-  bounded-strike i {struck} {e} {st} l g d =
+  bounded_strike i {struck} {e} {st} l g d =
       let k = inner_in y y.size (remaining (set st i 0)) in
       let before : ℕ = inner_in y i (remaining st) in
       let b = subst (λ (n : ℕ). e + n + later struck n ≤ bound + before) (one_fewer y i st d l) g.holds in
       record { holds = omega (arith, b, as_many_before y i st d, later_drops struck k) }
 
-  bounded-step :
+  bounded_step :
       (i : ℕ) (struck : Bool) (e : ℕ) (st : List ℕ) (s : State) → i < y.size → Bounded i struck e st →
       Turn y budget i struck e st s → At (Bounded (suc i)) Spent s
-  bounded-step i struck e st s l g (passes d) = record { holds = omega (arith, g.holds, count_no (due y (remaining st)) i d) }
-  bounded-step i struck e st s l g (pauses d p) =
-      (omega (arith, g.holds, due-counts i st l d), omega (arith, g.holds, due-counts i st l d))
-  bounded-step i struck e st s l g (keeps d p v) = record { holds = omega (arith, g.holds, count_yes (due y (remaining st)) i d) }
-  bounded-step i struck e st s l g (strikes d p v c) = bounded-strike i l g d
-  bounded-step i struck e st s l g (answers8 d p v c) = omega (arith, g.holds, due-counts i st l d)
+  bounded_step i struck e st s l g (passes d) = record { holds = omega (arith, g.holds, count_no (due y (remaining st)) i d) }
+  bounded_step i struck e st s l g (pauses d p) =
+      (omega (arith, g.holds, due_counts i st l d), omega (arith, g.holds, due_counts i st l d))
+  bounded_step i struck e st s l g (keeps d p v) = record { holds = omega (arith, g.holds, count_yes (due y (remaining st)) i d) }
+  bounded_step i struck e st s l g (strikes d p v c) = bounded_strike i l g d
+  bounded_step i struck e st s l g (answers8 d p v c) = omega (arith, g.holds, due_counts i st l d)
 
   bounded : Invariant y budget Bounded Spent
   unfolding later count_below
   bounded =
       record {
-        step = bounded-step;
+        step = bounded_step;
         again = λ e st g. record { holds = omega (arith, g.holds, sum_last (inner_in y y.size (remaining st))) };
         end = λ e st g. omega (arith, g.holds);
       }
 
   -- a search from a set with k inner edges makes at most 1 + .. + k examinations
-  pub search-spent :
+  pub search_spent :
       (e : ℕ) (st : List ℕ) → e ≤ budget → e + sum_to (inner_in y y.size (remaining st)) ≤ bound →
       Spent (search_from y budget e st)
   unfolding later count_below
-  search-spent e st l b =
+  search_spent e st l b =
       search_keeps bounded e st l (record { holds = omega (arith, b, sum_last (inner_in y y.size (remaining st))) })
 
   pub spent_few : (h : Final) → Spent h → h.examinations ≤ bound
@@ -129,16 +129,16 @@ module _ (y : System) (budget bound : ℕ) where
 
 -- ---- m(m+1)/2
 -- no set has more inner edges than there are
-pub inner-few_lem : (y : System) (S : ℕ → Bool) → inner_in y y.size S ≤ inner_edges y
-inner-few_lem y S = count_le (due y S) y.inner (due-inner_lem y S) y.size
+pub inner_few : (y : System) (S : ℕ → Bool) → inner_in y y.size S ≤ inner_edges y
+inner_few y S = count_le (due y S) y.inner (due_inner y S) y.size
 
 pub run_spent : (y : System) (budget : ℕ) → Spent y budget (ample y) (search_from y budget 0 (all_edges y))
 run_spent y budget =
-    search-spent y budget (ample y) 0 (all_edges y) (omega arith)
-    (omega (arith, sum_half (inner_edges y), sum-up_lem _ _ (inner-few_lem y (remaining (all_edges y)))))
+    search_spent y budget (ample y) 0 (all_edges y) (omega arith)
+    (omega (arith, sum_half (inner_edges y), sum_up _ _ (inner_few y (remaining (all_edges y)))))
 
 -- with n pairs that is at most n(n+1)/2
-pub ample-few_lem : (y : System) (n : ℕ) → y.size ≤ n → ample y ≤ n * (n + 1) / 2
-ample-few_lem y n l =
+pub ample_few : (y : System) (n : ℕ) → y.size ≤ n → ample y ≤ n * (n + 1) / 2
+ample_few y n l =
     let k = count_small y.inner y.size in
-    omega (arith, sum_half (inner_edges y), sum_half n, sum-up_lem (inner_edges y) n (omega arith))
+    omega (arith, sum_half (inner_edges y), sum_half n, sum_up (inner_edges y) n (omega arith))

@@ -9,7 +9,7 @@ use native.Mathlib.Omega.{arith}
 use Rattle.striking.specs.System.{System}
 use Rattle.striking.specs.Search.{done, Final, State, going, over, visit, visits, rounds, search_from}
 use Rattle.striking.proofs.Tests.{not_both}
-use Rattle.striking.proofs.Steps.{final, Turn, passes, pauses, keeps, strikes, answers8, turn, visit-over_lem, after, rounds-more}
+use Rattle.striking.proofs.Steps.{final, Turn, passes, pauses, keeps, strikes, answers8, turn, visit_over, after, rounds_more}
 
 -- P holds of a round under way, Q where the search is over
 abbrev pub At : (Bool → ℕ → List ℕ → Type 0) → (Final → Type 0) → State → Type 0
@@ -29,7 +29,7 @@ pub record Invariant (y : System) (budget : ℕ) (I : ℕ → Bool → ℕ → L
 module _
     {y : System} {budget : ℕ} {I : ℕ → Bool → ℕ → List ℕ → Type 0} {Q : Final → Type 0} (k : Invariant y budget I Q) where
   pub visit_keeps : (i : ℕ) → i < y.size → (s : State) → At (I i) Q s → At (I (suc i)) Q (visit y budget i s)
-  visit_keeps i l (over h) g = rw (visit-over_lem y budget i h) g
+  visit_keeps i l (over h) g = rw (visit_over y budget i h) g
   visit_keeps i l (going struck e st) g =
       k.step i struck e st (visit y budget i (going struck e st)) l g (turn y budget i struck e st)
 
@@ -54,19 +54,19 @@ module _ (y : System) (budget e₀ : ℕ) where
   one_more : {struck : Bool} {e : ℕ} → Grown budget e₀ struck e → e < budget → (t : Bool) → Grown budget e₀ t (e + 1)
   one_more g l t = record { from = omega arith; within = omega arith; past = λ h. omega arith }
 
-  grown-step :
+  grown_step :
       (i : ℕ) (struck : Bool) (e : ℕ) (st : List ℕ) (s : State) → i < y.size → Grown budget e₀ struck e →
       Turn y budget i struck e st s → GrownAt s
-  grown-step i struck e st s l g (passes d) = g
-  grown-step i struck e st s l g (pauses d p) = g.within
-  grown-step i struck e st s l g (keeps d p v) = one_more g p struck
-  grown-step i struck e st s l g (strikes d p v c) = one_more g p true
-  grown-step i struck e st s l g (answers8 d p v c) = omega arith
+  grown_step i struck e st s l g (passes d) = g
+  grown_step i struck e st s l g (pauses d p) = g.within
+  grown_step i struck e st s l g (keeps d p v) = one_more g p struck
+  grown_step i struck e st s l g (strikes d p v c) = one_more g p true
+  grown_step i struck e st s l g (answers8 d p v c) = omega arith
 
   grown : Invariant y budget (λ i struck e st. Grown budget e₀ struck e) (λ h. h.examinations ≤ budget)
   grown =
       record {
-        step = grown-step;
+        step = grown_step;
         again = λ e st g. record { from = g.from; within = g.within; past = λ h. not_both h refl };
         end = λ e st g. g.within;
       }
@@ -77,16 +77,16 @@ module _ (y : System) (budget e₀ : ℕ) where
 -- ---- the rounds
 module _
     {y : System} {budget : ℕ} {I : ℕ → Bool → ℕ → List ℕ → Type 0} {Q : Final → Type 0} (k : Invariant y budget I Q) where
-  pub rounds-keep :
+  pub rounds_keep :
       (fuel e : ℕ) (st : List ℕ) → budget < fuel + e → e ≤ budget → I 0 false e st → Q (rounds y budget fuel e st)
   unfolding after
-  rounds-keep zero e st l w g = absurd (clash l w)
+  rounds_keep zero e st l w g = absurd (clash l w)
     where
       clash : budget < 0 + e → e ≤ budget → ⊥
       clash l w = omega arith
-  rounds-keep (suc fuel) e st l w g =
-      rw (rounds-more y budget fuel e st)
-      (go (λ e' st' l w g. rounds-keep fuel e' st' l w g) (visits y budget y.size (going false e st)) (round_keeps k e st g)
+  rounds_keep (suc fuel) e st l w g =
+      rw (rounds_more y budget fuel e st)
+      (go (λ e' st' l w g. rounds_keep fuel e' st' l w g) (visits y budget y.size (going false e st)) (round_keeps k e st g)
       (round_grows y budget e st w))
     where
       go :
@@ -98,4 +98,4 @@ module _
 
   pub search_keeps : (e : ℕ) (st : List ℕ) → e ≤ budget → I 0 false e st → Q (search_from y budget e st)
   unfolding search_from
-  search_keeps e st w g = rounds-keep (suc budget) e st (omega arith) w g
+  search_keeps e st w g = rounds_keep (suc budget) e st (omega arith) w g

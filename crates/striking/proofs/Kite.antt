@@ -40,7 +40,7 @@ abbrev Gives : System → ℕ → Outcome → ℕ → List ℕ → Type 0
 Gives y budget o e st = search_result y budget ≡ record { outcome = o; examinations = e; status = st }
 
 -- its plates under budgets from 0 to the largest, and how many examinations are ample
-pub kite-plates :
+pub kite_plates :
     Gives kite 0 paused 0 (2 ∷ 1 ∷ 2 ∷ 2 ∷ 1 ∷ 2 ∷ []) ×
     Gives kite 1 paused 1 (2 ∷ 0 ∷ 2 ∷ 2 ∷ 2 ∷ 2 ∷ []) ×
     Gives kite 2 paused 2 (2 ∷ 0 ∷ 2 ∷ 2 ∷ 2 ∷ 2 ∷ []) ×
@@ -49,4 +49,4 @@ pub kite-plates :
     Gives bare 4294967295 (answer8 4) 2 (255 ∷ 255 ∷ 255 ∷ 255 ∷ 255 ∷ 255 ∷ []) ×
     (ample kite ≡ 3)
 unfolding search_result report bytes_at run search_from rounds visits visit examine statuses status_byte all_edges remaining crossed due any_below list_below count_below
-kite-plates = (refl, refl, refl, refl, refl, refl, refl)
+kite_plates = (refl, refl, refl, refl, refl, refl, refl)

@@ -61,7 +61,7 @@ listed n byte S bit below i = go (dec_lt i n)
 -- the remaining set starts as all empty edges
 pub all_edges_lem : (y : System) → Lawful y → (i : ℕ) → remaining (all_edges y) i ≡ y.edge i
 unfolding all_edges
-all_edges_lem y law = listed y.size (λ i. cond (y.edge i) 1 0) y.edge (λ i. bit (y.edge i)) law.edges-below_lem
+all_edges_lem y law = listed y.size (λ i. cond (y.edge i) 1 0) y.edge (λ i. bit (y.edge i)) law.edges_below
   where
     bit : (b : Bool) → not (eqb (cond b 1 0) 0) ≡ b
     bit true = refl

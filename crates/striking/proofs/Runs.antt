@@ -22,17 +22,17 @@ abbrev pub StruckAt : System → List ℕ → State → Type 0
 StruckAt y st₀ = At (λ struck e st. Struck y st₀ st) (λ h. Struck y st₀ h.rest)
 
 module _ (y : System) (budget : ℕ) (st₀ : List ℕ) where
-  strike-step :
+  strike_step :
       (i : ℕ) (struck : Bool) (e : ℕ) (st : List ℕ) (s : State) → i < y.size → Struck y st₀ st →
       Turn y budget i struck e st s → StruckAt y st₀ s
-  strike-step i struck e st s l g (passes d) = g
-  strike-step i struck e st s l g (pauses d p) = g
-  strike-step i struck e st s l g (keeps d p v) = g
-  strike-step i struck e st s l g (strikes d p v c) = next i g d v c
-  strike-step i struck e st s l g (answers8 d p v c) = g
+  strike_step i struck e st s l g (passes d) = g
+  strike_step i struck e st s l g (pauses d p) = g
+  strike_step i struck e st s l g (keeps d p v) = g
+  strike_step i struck e st s l g (strikes d p v c) = next i g d v c
+  strike_step i struck e st s l g (answers8 d p v c) = g
 
   pub only_strikes : Invariant y budget (λ i struck e st. Struck y st₀ st) (λ h. Struck y st₀ h.rest)
-  only_strikes = record { step = strike-step; again = λ e st g. g; end = λ e st g. g }
+  only_strikes = record { step = strike_step; again = λ e st g. g; end = λ e st g. g }
 
 pub search_strikes : (y : System) (budget e : ℕ) (st : List ℕ) → e ≤ budget → Struck y st (search_from y budget e st).rest
 search_strikes y budget e st l = search_keeps (only_strikes y budget st) e st l nothing
@@ -71,16 +71,16 @@ module _ (y : System) (budget : ℕ) where
       ⊎_elim (λ e. subst (λ (n : ℕ). due y S n ≡ true → y.vouched S n ≡ true) (sym e) k d) (λ l'. h j l' d)
       (eq-or-lt_of_le (le_of_suc-le-suc l))
 
-  calm-step :
+  calm_step :
       (i : ℕ) (struck : Bool) (e : ℕ) (st : List ℕ) (s : State) → i < y.size → Calm i struck e st →
       Turn y budget i struck e st s → At (Calm (suc i)) Ended s
-  calm-step i struck e st s l g (passes d) =
+  calm_step i struck e st s l g (passes d) =
       record { within = g.within; calm = λ f. one_place i (remaining st) (g.calm f) (λ t. not_both t d) }
-  calm-step i struck e st s l g (pauses d p) = let w = g.within in record { within = w; reason = (omega arith, (i, l, d)) }
-  calm-step i struck e st s l g (keeps d p v) =
+  calm_step i struck e st s l g (pauses d p) = let w = g.within in record { within = w; reason = (omega arith, (i, l, d)) }
+  calm_step i struck e st s l g (keeps d p v) =
       record { within = omega arith; calm = λ f. one_place i (remaining st) (g.calm f) (λ t. v) }
-  calm-step i struck e st s l g (strikes d p v c) = record { within = omega arith; calm = λ f. not_both refl f }
-  calm-step i struck e st s l g (answers8 d p v c) = record { within = omega arith; reason = (l, d, v, c) }
+  calm_step i struck e st s l g (strikes d p v c) = record { within = omega arith; calm = λ f. not_both refl f }
+  calm_step i struck e st s l g (answers8 d p v c) = record { within = omega arith; reason = (l, d, v, c) }
 
   none_yet : (e : ℕ) (st : List ℕ) → e ≤ budget → Calm 0 false e st
   none_yet e st l = record { within = l; calm = λ f j k d. absurd (not-suc-le-zero k) }
@@ -88,7 +88,7 @@ module _ (y : System) (budget : ℕ) where
   calm_kept : Invariant y budget Calm Ended
   calm_kept =
       record {
-        step = calm-step;
+        step = calm_step;
         again = λ e st g. none_yet e st g.within;
         end = λ e st g. record { within = g.within; reason = g.calm refl };
       }

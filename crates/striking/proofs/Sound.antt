@@ -14,11 +14,11 @@ use Rattle.striking.specs.Search.{Outcome, done, paused, answer8, is_answer8, Fi
 use Rattle.striking.specs.Strikes.{Struck}
 use Rattle.striking.specs.Demands.{Supported, Largest, LocallyMinimal}
 use Rattle.striking.proofs.Tests.{not_both, is_false}
-use Rattle.striking.proofs.Below.{length-list_lem}
-use Rattle.striking.proofs.Strikes.{struck_less, uncrossed-stays}
+use Rattle.striking.proofs.Below.{length_list}
+use Rattle.striking.proofs.Strikes.{struck_less, uncrossed_stays}
 use Rattle.striking.proofs.Runs.{AllVouched}
-use Rattle.striking.proofs.Bytes.{byte_zero, byte_two, byte-set_lem}
-use Rattle.striking.proofs.AnyOrder.{rest_below, rest-largest_lem, rest-supported_lem, certain_in, impossible_out, largest_same}
+use Rattle.striking.proofs.Bytes.{byte_zero, byte_two, byte-set}
+use Rattle.striking.proofs.AnyOrder.{rest_below, rest_largest, rest_supported, certain_in, impossible_out, largest_same}
 
 -- whatever order the search of h went in
 pub record Sound (y : System) (h : Final) : Type 0 where
@@ -47,17 +47,17 @@ module _ (y : System) (h : Final) where
       go paused f = refl
       go (answer8 i) f = not_both refl f
 
-  pub report-answer8_lem : (i : ℕ) → h.outcome ≡ answer8 i → (report y h).status ≡ replicate y.size 255
+  pub report_answer8 : (i : ℕ) → h.outcome ≡ answer8 i → (report y h).status ≡ replicate y.size 255
   unfolding report bytes_at
-  report-answer8_lem i q = rw q
+  report_answer8 i q = rw q
 
-  pub report-length_lem : length (report y h).status ≡ y.size
+  pub report-length : length (report y h).status ≡ y.size
   unfolding report bytes_at statuses
-  report-length_lem = go h.outcome
+  report-length = go h.outcome
     where
       go : (o : Outcome) → length (bytes_at y o h.rest) ≡ y.size
-      go done = length-list_lem (status_byte y (remaining h.rest)) y.size
-      go paused = length-list_lem (status_byte y (remaining h.rest)) y.size
+      go done = length_list (status_byte y (remaining h.rest)) y.size
+      go paused = length_list (status_byte y (remaining h.rest)) y.size
       go (answer8 i) = length-replicate y.size 255
 
 -- 255 everywhere tells nothing: a byte is 255, or, past the last pair, read as 0
@@ -80,13 +80,13 @@ zero_past : (n i : ℕ) → get_or (all255 n) i 0 ≡ 0 → n ≤ i
 zero_past n i b = ⊎_elim (λ q. absurd (omega arith)) (λ r. r.0) (byte_255 n i)
 
 module _ (y : System) (law : Lawful y) (h : Final) (g : Sound y h) where
-  pub report-remaining_lem : is_answer8 h.outcome ≡ false → remaining (report y h).status ≡ remaining h.rest
-  report-remaining_lem f =
-      ap remaining (report_bytes y h f) ∙ fun_ext (byte-set_lem y (remaining h.rest) (rest_below y law g.strikes))
+  pub report_remaining : is_answer8 h.outcome ≡ false → remaining (report y h).status ≡ remaining h.rest
+  report_remaining f =
+      ap remaining (report_bytes y h f) ∙ fun_ext (byte-set y (remaining h.rest) (rest_below y law g.strikes))
 
   -- ---- demand 2
   pub end_largest : h.outcome ≡ done → Largest y (remaining h.rest)
-  end_largest q = rest-largest_lem y law g.strikes (rest-supported_lem y law g.strikes (g.vouched q))
+  end_largest q = rest_largest y law g.strikes (rest_supported y law g.strikes (g.vouched q))
 
   -- ---- demand 3
   module _ {T : ℕ → Bool} (t : LocallyMinimal y T) (i : ℕ) where
@@ -108,12 +108,12 @@ module _ (y : System) (law : Lawful y) (h : Final) (g : Sound y h) where
         go paused b = impossible_out y law g.strikes t i b
         go (answer8 j) b =
             let l = zero_past y.size i b in
-            is_false (T i) (λ f. let k = law.edges-below_lem i (t.triangulation.edges i f) in omega arith)
+            is_false (T i) (λ f. let k = law.edges_below i (t.triangulation.edges i f) in omega arith)
 
   -- ---- strikes in another order that leave each inner edge with a certificate
   module _ {st : List ℕ} (p : Struck y (all_edges y) st) (s : Supported y (remaining st)) (q : h.outcome ≡ done) where
     pub complete_rest : remaining st ≡ remaining h.rest
-    complete_rest = largest_same (rest-largest_lem y law p s) (end_largest q)
+    complete_rest = largest_same (rest_largest y law p s) (end_largest q)
 
     pub complete_bytes : statuses y (remaining st) ≡ (report y h).status
     complete_bytes = ap (statuses y) complete_rest ∙ sym (report_bytes y h (done_no_answer8 q))
@@ -125,7 +125,7 @@ module _
   pub report_certain_later : byte (report y h) i ≡ 2 → byte (report y h') i ≡ 2
   report_certain_later b =
       let r = (byte_two y (remaining h.rest) (rest_below y law g.strikes) i).0 (rw (report_bytes y h f) at b) in
-      let s = uncrossed-stays on i r.0 r.1 in
+      let s = uncrossed_stays on i r.0 r.1 in
       rw (report_bytes y h' f') ((byte_two y (remaining h'.rest) (rest_below y law g'.strikes) i).1 s)
 
   pub report_impossible_later : byte (report y h) i ≡ 0 → byte (report y h') i ≡ 0

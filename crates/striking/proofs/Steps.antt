@@ -27,18 +27,18 @@ module _ (y : System) (budget i : ℕ) (struck : Bool) (e : ℕ) (st : List ℕ)
     abbrev unspent : Bool → State
     unspent t = elim t [ true ↦ examine y struck e st i | false ↦ over (final paused e st) ]
 
-    visit-due_lem : visit y budget i (going struck e st) ≡ unspent (ltb e budget)
+    visit_due : visit y budget i (going struck e st) ≡ unspent (ltb e budget)
     unfolding visit
-    visit-due_lem = rw (visit, d)
+    visit_due = rw (visit, d)
 
     -- with the budget spent it is a pause
     pub visit_pause : budget ≤ e → visit y budget i (going struck e st) ≡ over (final paused e st)
-    visit_pause l = visit-due_lem ∙ ap unspent (le-ltb e budget l)
+    visit_pause l = visit_due ∙ ap unspent (le-ltb e budget l)
 
     module _ (l : e < budget) where
       -- before that it is made
       pub visit_examines : visit y budget i (going struck e st) ≡ examine y struck e st i
-      visit_examines = visit-due_lem ∙ ap unspent (lt-ltb e budget l)
+      visit_examines = visit_due ∙ ap unspent (lt-ltb e budget l)
 
       -- an edge with a certificate stays, and its examination costs one
       pub visit_keep : y.vouched (remaining st) i ≡ true → visit y budget i (going struck e st) ≡ going struck (e + 1) st
@@ -47,21 +47,21 @@ module _ (y : System) (budget i : ℕ) (struck : Bool) (e : ℕ) (st : List ℕ)
 
       module _ (v : y.vouched (remaining st) i ≡ false) where
         -- one without, and crossed, is struck, and its examination costs one
-        pub visit-strike :
+        pub visit_strike :
             crossed y (remaining st) i ≡ true → visit y budget i (going struck e st) ≡ going true (e + 1) (set st i 0)
         unfolding examine
-        visit-strike c = visit_examines ∙ rw (examine, v, c)
+        visit_strike c = visit_examines ∙ rw (examine, v, c)
 
         -- one without, and not crossed, ends the search with answer 8, and its examination costs one
-        pub visit-answer8 :
+        pub visit_answer8 :
             crossed y (remaining st) i ≡ false → visit y budget i (going struck e st) ≡ over (final (answer8 i) (e + 1) st)
         unfolding examine
-        visit-answer8 c = visit_examines ∙ rw (examine, v, c)
+        visit_answer8 c = visit_examines ∙ rw (examine, v, c)
 
 -- a search that is over stays so
-pub visit-over_lem : (y : System) (budget i : ℕ) (h : Final) → visit y budget i (over h) ≡ over h
+pub visit_over : (y : System) (budget i : ℕ) (h : Final) → visit y budget i (over h) ≡ over h
 unfolding visit
-visit-over_lem y budget i h = refl
+visit_over y budget i h = refl
 
 -- a turn that goes in one of these five ways; and every turn does
 pub data Turn (y : System) (budget i : ℕ) (struck : Bool) (e : ℕ) (st : List ℕ) : State → Type 0 where
@@ -95,10 +95,10 @@ turn y budget i struck e st =
         rw (visit_keep y budget i struck e st pd l pv) (keeps pd l pv)
     go true true false true pd pt pv pc =
         let l = ltb-true e budget pt in
-        rw (visit-strike y budget i struck e st pd l pv pc) (strikes pd l pv pc)
+        rw (visit_strike y budget i struck e st pd l pv pc) (strikes pd l pv pc)
     go true true false false pd pt pv pc =
         let l = ltb-true e budget pt in
-        rw (visit-answer8 y budget i struck e st pd l pv pc) (answers8 pd l pv pc)
+        rw (visit_answer8 y budget i struck e st pd l pv pc) (answers8 pd l pv pc)
 
 -- ---- what follows a round: nothing where the search is over, the end where it struck nothing, another round where it did
 unfoldable pub after : System → ℕ → ℕ → State → Final
@@ -107,11 +107,11 @@ after y budget fuel (going false e st) = final done e st
 after y budget fuel (going true e st) = rounds y budget fuel e st
 
 -- a round, and what follows it
-pub rounds-more :
+pub rounds_more :
     (y : System) (budget fuel e : ℕ) (st : List ℕ) →
     rounds y budget (suc fuel) e st ≡ after y budget fuel (visits y budget y.size (going false e st))
 unfolding rounds after
-rounds-more y budget fuel e st = go (visits y budget y.size (going false e st))
+rounds_more y budget fuel e st = go (visits y budget y.size (going false e st))
   where
     go :
         (s : State) →

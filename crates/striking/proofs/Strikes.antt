@@ -11,7 +11,7 @@ use Rattle.striking.specs.Strikes.{Struck, nothing, next}
 use Rattle.striking.specs.Demands.{Supported}
 use Rattle.striking.proofs.Tests.{not_both, is_false}
 use Rattle.striking.proofs.Remaining.{others_stay, struck_within}
-use Rattle.striking.proofs.System.{due-inner_lem, crossed_more}
+use Rattle.striking.proofs.System.{due_inner, crossed_more}
 
 module _ {y : System} where
   pub struck_trans : {a b c : List ℕ} → Struck y a b → Struck y b c → Struck y a c
@@ -23,21 +23,21 @@ module _ {y : System} where
   struck_less (next {st' = b} j q d v c) i h = struck_less q i (struck_within b j i h)
 
   -- a hull edge stays
-  pub hull-stays :
+  pub hull_stays :
       {a b : List ℕ} → Struck y a b → (i : ℕ) → remaining a i ≡ true → y.inner i ≡ false → remaining b i ≡ true
-  hull-stays nothing i h k = h
-  hull-stays (next {st' = b} j q d v c) i h k = others_stay b j i off ∙ hull-stays q i h k
+  hull_stays nothing i h k = h
+  hull_stays (next {st' = b} j q d v c) i h k = others_stay b j i off ∙ hull_stays q i h k
     where
       off : i ≡ j → ⊥
-      off e = not_both (due-inner_lem y (remaining b) j d) (subst (λ (n : ℕ). y.inner n ≡ false) e k)
+      off e = not_both (due_inner y (remaining b) j d) (subst (λ (n : ℕ). y.inner n ≡ false) e k)
 
   -- an edge that nothing remaining crosses stays, and stays so
-  pub uncrossed-stays :
+  pub uncrossed_stays :
       {a b : List ℕ} → Struck y a b → (i : ℕ) → remaining a i ≡ true → crossed y (remaining a) i ≡ false →
       (remaining b i ≡ true) × (crossed y (remaining b) i ≡ false)
-  uncrossed-stays nothing i h k = (h, k)
-  uncrossed-stays (next {st' = b} j q d v c) i h k =
-      let r = uncrossed-stays q i h k in
+  uncrossed_stays nothing i h k = (h, k)
+  uncrossed_stays (next {st' = b} j q d v c) i h k =
+      let r = uncrossed_stays q i h k in
       let off : i ≡ j → ⊥ = λ e. not_both c (subst (λ (n : ℕ). crossed y (remaining b) n ≡ false) e r.1) in (
         others_stay b j i off ∙ r.0,
         is_false _ (λ t. not_both (crossed_more y (remaining (set b j 0)) (remaining b) (struck_within b j) i t) r.1),
@@ -54,4 +54,4 @@ module _ {y : System} where
         off : Within S (remaining b) → i ≡ j → ⊥
         off ih e =
             let h' : S j ≡ true = subst (λ (n : ℕ). S n ≡ true) e h in
-            not_both (law.vouched_grows S (remaining b) ih j (s.vouched j h' (due-inner_lem y (remaining b) j d))) v
+            not_both (law.vouched_grows S (remaining b) ih j (s.vouched j h' (due_inner y (remaining b) j d))) v

@@ -25,11 +25,11 @@ unfolding sum_below sum_to
 sum_last zero = refl
 sum_last (suc n) = refl
 
-pub sum-up_lem : (n m : ℕ) → n ≤ m → sum_to n ≤ sum_to m
+pub sum_up : (n m : ℕ) → n ≤ m → sum_to n ≤ sum_to m
 unfolding sum_to
-sum-up_lem n zero l = let e : n ≡ 0 = omega arith in rw e (omega arith)
-sum-up_lem n (suc m) l =
-    ⊎_elim (λ e. rw e (omega arith)) (λ l'. let k = sum-up_lem n m (le_of_suc-le-suc l') in omega arith) (eq-or-lt_of_le l)
+sum_up n zero l = let e : n ≡ 0 = omega arith in rw e (omega arith)
+sum_up n (suc m) l =
+    ⊎_elim (λ e. rw e (omega arith)) (λ l'. let k = sum_up n m (le_of_suc-le-suc l') in omega arith) (eq-or-lt_of_le l)
 
 sum_twice : (n : ℕ) → 2 * sum_to n ≡ n * (n + 1)
 unfolding sum_to

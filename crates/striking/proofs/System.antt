@@ -13,9 +13,9 @@ module _ (y : System) (S : ℕ → Bool) (i : ℕ) where
   unfolding due
   due_in d = both_first (S i) (y.inner i) d
 
-  pub due-inner_lem : due y S i ≡ true → y.inner i ≡ true
+  pub due_inner : due y S i ≡ true → y.inner i ≡ true
   unfolding due
-  due-inner_lem d = both_second (S i) (y.inner i) d
+  due_inner d = both_second (S i) (y.inner i) d
 
   pub is_due : S i ≡ true → y.inner i ≡ true → due y S i ≡ true
   unfolding due
@@ -39,18 +39,18 @@ module _ (y : System) (S : ℕ → Bool) (i : ℕ) where
     pub crossed_by_none : crossed y S i ≡ false → (j : ℕ) → S j ≡ true → y.cross i j ≡ false
     crossed_by_none c j h = is_false (y.cross i j) (λ t. not_both (crossed_by j (below j h) h t) c)
 
-    pub crossed-by-another :
+    pub crossed_by_another :
         Lawful y → (crossed y S i ≡ true) ↔ ((j : ℕ) × (S j ≡ true) × (j ≡ i → ⊥) × (y.cross i j ≡ true))
-    crossed-by-another law = (
+    crossed_by_another law = (
       λ t. let r = crossing t in (r.0, r.2, other_crosses law r.0 r.3, r.3),
       λ r. crossed_by r.0 (below r.0 r.1) r.1 r.3,
     )
 
-    pub crossed-by-no-other :
+    pub crossed_by_no_other :
         Lawful y → (crossed y S i ≡ false) ↔ ((j : ℕ) → S j ≡ true → (j ≡ i → ⊥) → y.cross i j ≡ false)
-    crossed-by-no-other law = (
+    crossed_by_no_other law = (
       λ c j h n. crossed_by_none c j h,
-      λ f. is_false (crossed y S i) (λ t. let r = (crossed-by-another law).0 t in not_both r.3 (f r.0 r.1 r.2)),
+      λ f. is_false (crossed y S i) (λ t. let r = (crossed_by_another law).0 t in not_both r.3 (f r.0 r.1 r.2)),
     )
 
 pub crossed_more : (y : System) (S S' : ℕ → Bool) → Within S S' → Within (crossed y S) (crossed y S')

@@ -22,7 +22,7 @@ Within S S' = (i : ℕ) → S i ≡ true → S' i ≡ true
 -- What is asked of a system: its edges are pairs, its inner edges are edges, crossing is symmetric and no edge crosses itself, and
 -- a certificate in a set is one in every larger set.
 pub record Lawful (y : System) : Type 0 where
-  pub edges-below_lem : (i : ℕ) → y.edge i ≡ true → i < y.size
+  pub edges_below : (i : ℕ) → y.edge i ≡ true → i < y.size
   pub inner_are_edges : Within y.inner y.edge
   pub cross_symmetric : (i j : ℕ) → y.cross i j ≡ true → y.cross j i ≡ true
   pub cross_not_itself : (i : ℕ) → y.cross i i ≡ false

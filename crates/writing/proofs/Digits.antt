@@ -49,9 +49,9 @@ pub spelt_more : (n : ℕ) {byte : ℕ} → 10 ≤ n → byte ≡ digit (n % 10)
 spelt_more n h e = ap (λ (x : ℕ). digits (n / 10) ++ (x ∷ [])) e ∙ sym (digits_more n h)
 
 -- a number below the power of ten k + 1 has at most k + 1 digits
-pub digits-length_lem : (k n : ℕ) → n < 10 ^ suc k → length (digits n) ≤ suc k
-digits-length_lem zero n h = rw (digits_one n h) (omega arith)
-digits-length_lem (suc k) n h = go (λ p. digits-length_lem k (n / 10) p) (dec_lt n 10)
+pub digits-length : (k n : ℕ) → n < 10 ^ suc k → length (digits n) ≤ suc k
+digits-length zero n h = rw (digits_one n h) (omega arith)
+digits-length (suc k) n h = go (λ p. digits-length k (n / 10) p) (dec_lt n 10)
   where
     go : (n / 10 < 10 ^ suc k → length (digits (n / 10)) ≤ suc k) → Dec (n < 10) → length (digits n) ≤ suc (suc k)
     go tenth (yes u) = rw (digits_one n u) (omega arith)

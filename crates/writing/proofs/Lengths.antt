@@ -8,11 +8,11 @@ use native.Mathlib.Decide.{ℕ_discrete}
 use native.Mathlib.Omega.{arith}
 use lib.ListN.{length, get_or, length-append}
 use Rattle.pairs.specs.Pairs.{pair_count, pair_at}
-use Rattle.pairs.proofs.Laws.{pair_count_small, pair_at_numbered, pair_at-below_lem}
+use Rattle.pairs.proofs.Laws.{pair_count_small, pair_at_numbered, pair_at_below}
 use Rattle.writing.specs.Digits.{digits}
 use Rattle.writing.specs.Listing.{done_word, paused_word, refused_word, possible_word, certain_word, line, done_text, paused_text, outcome_text, refused_text, pair_text, pair_texts, pairs_text, listing_text}
-use Rattle.writing.proofs.Digits.{digits-length_lem}
-use Rattle.writing.proofs.Lines.{ended, line_two, line_three, pair_possible, pair_certain, pair-none_lem, pairs_none, pairs_more}
+use Rattle.writing.proofs.Digits.{digits-length}
+use Rattle.writing.proofs.Lines.{ended, line_two, line_three, pair_possible, pair_certain, pair_none, pairs_none, pairs_more}
 
 -- ---- lines
 ended_length : (f : List ℕ) (end : ℕ) → length (ended f end) ≡ length f + 1
@@ -36,36 +36,36 @@ line_three_length f g h =
 
 -- a number of 64 bits has at most 20 digits
 long : (n : ℕ) → n < 2 ^ 64 → length (digits n) ≤ 20
-long n h = digits-length_lem 19 n (omega arith)
+long n h = digits-length 19 n (omega arith)
 
-pub refused-length_lem : (i d : ℕ) → i < 2 ^ 64 → d < 2 ^ 64 → length (refused_text i d) ≤ 50
+pub refused-length : (i d : ℕ) → i < 2 ^ 64 → d < 2 ^ 64 → length (refused_text i d) ≤ 50
 unfolding refused_text
-refused-length_lem i d h k = omega (arith, line_three_length refused_word (digits i) (digits d), long i h, long d k)
+refused-length i d h k = omega (arith, line_three_length refused_word (digits i) (digits d), long i h, long d k)
 
-pub outcome-length_lem : (done : Bool) (e : ℕ) → e < 2 ^ 64 → length (outcome_text done e) ≤ 28
+pub outcome-length : (done : Bool) (e : ℕ) → e < 2 ^ 64 → length (outcome_text done e) ≤ 28
 unfolding outcome_text done_text paused_text
-outcome-length_lem true e h = omega (arith, line_two_length done_word (digits e), long e h)
-outcome-length_lem false e h = omega (arith, line_two_length paused_word (digits e), long e h)
+outcome-length true e h = omega (arith, line_two_length done_word (digits e), long e h)
+outcome-length false e h = omega (arith, line_two_length paused_word (digits e), long e h)
 
 -- ---- pairs
-pub pair-length_lem : (a b s : ℕ) → a < 1000 → b < 1000 → length (pair_text a b s) ≤ 17
-pair-length_lem a b s h k = go (ℕ_discrete s 1) (ℕ_discrete s 2)
+pub pair-length : (a b s : ℕ) → a < 1000 → b < 1000 → length (pair_text a b s) ≤ 17
+pair-length a b s h k = go (ℕ_discrete s 1) (ℕ_discrete s 2)
   where
     short : (w : List ℕ) → length w ≤ 8 → length (line (digits a ∷ digits b ∷ w ∷ [])) ≤ 17
-    short w l = omega (arith, line_three_length (digits a) (digits b) w, digits-length_lem 2 a h, digits-length_lem 2 b k)
+    short w l = omega (arith, line_three_length (digits a) (digits b) w, digits-length 2 a h, digits-length 2 b k)
 
     go : Dec (s ≡ 1) → Dec (s ≡ 2) → length (pair_text a b s) ≤ 17
     go (yes e) x = rw (pair_possible a b s e) (short possible_word (omega arith))
     go (no d) (yes e) = rw (pair_certain a b s e) (short certain_word (omega arith))
-    go (no d) (no f) = rw (pair-none_lem a b s d f) (omega arith)
+    go (no d) (no f) = rw (pair_none a b s d f) (omega arith)
 
-pub pair_texts-length_lem : (st : List ℕ) (k : ℕ) → k ≤ 8128 → length (pair_texts st k) ≤ k * 17
-pair_texts-length_lem st zero h = rw (pairs_none st) (omega arith)
-pair_texts-length_lem st (suc k) h =
-    let below = pair_at-below_lem 128 k (omega arith) in
+pub pair_texts-length : (st : List ℕ) (k : ℕ) → k ≤ 8128 → length (pair_texts st k) ≤ k * 17
+pair_texts-length st zero h = rw (pairs_none st) (omega arith)
+pair_texts-length st (suc k) h =
+    let below = pair_at_below 128 k (omega arith) in
     let up = (pair_at_numbered k).up in
-    let last = pair-length_lem (pair_at k).a (pair_at k).b (get_or st k 0) (omega arith) (omega arith) in
-    let before = pair_texts-length_lem st k (omega arith) in
+    let last = pair-length (pair_at k).a (pair_at k).b (get_or st k 0) (omega arith) (omega arith) in
+    let before = pair_texts-length st k (omega arith) in
     rw (sym (add-one k), pairs_more st k, length-append) (omega arith)
 
 pub listing_length : (done : Bool) (e : ℕ) (st : List ℕ) (n : ℕ) → e < 2 ^ 64 → n ≤ 128 → length (listing_text done e st n) ≤ 138240
@@ -74,7 +74,7 @@ listing_length done e st n h k =
     omega (
       arith,
       length-append (outcome_text done e) (pairs_text st n),
-      outcome-length_lem done e h,
-      pair_texts-length_lem st (pair_count n) (pair_count_small n k),
+      outcome-length done e h,
+      pair_texts-length st (pair_count n) (pair_count_small n k),
       pair_count_small n k,
     )

@@ -46,9 +46,9 @@ pub pair_certain : (a b s : ℕ) → s ≡ 2 → pair_text a b s ≡ line (digit
 unfolding pair_text
 pair_certain a b s e = rw e refl
 
-pub pair-none_lem : (a b s : ℕ) → (s ≡ 1 → ⊥) → (s ≡ 2 → ⊥) → pair_text a b s ≡ []
+pub pair_none : (a b s : ℕ) → (s ≡ 1 → ⊥) → (s ≡ 2 → ⊥) → pair_text a b s ≡ []
 unfolding pair_text
-pair-none_lem a b s h k = cond_no _ _ (ne_eqb s 1 h) ∙ cond_no _ _ (ne_eqb s 2 k)
+pair_none a b s h k = cond_no _ _ (ne_eqb s 1 h) ∙ cond_no _ _ (ne_eqb s 2 k)
 
 pub listing_is : (done : Bool) (e : ℕ) (st : List ℕ) (n : ℕ) → listing_text done e st n ≡ outcome_text done e ++ pairs_text st n
 unfolding listing_text

@@ -11,4 +11,4 @@ unfolding shown_outcome
 returns-in-Refused c = record { number = sym (ap (λ (x : Outcome). (shown_outcome x).number) c.in-Refused.is) }
 
 pub returns : goal.returns
-returns c = record { number = outcome_unrefused _ c.in_default.keys2 }
+returns c = record { number = outcome_unrefused _ c.in_default.not-Refused }

@@ -43,13 +43,15 @@ loop-i-smaller c = omega arith
 
 pub loop-i-preserved : goal.loop-i-preserved
 loop-i-preserved c = let below : c.loop-i.i < length c.args.res.now = let p = c.requires in omega arith in (
-      omega arith,
-      ap (λ (x : List ℕ). set x c.loop-i.i (get_or c.args.numbers.now c.loop-i.i 0)) c.loop-i.invariant.1 ∙
-          store c.args.numbers.now c.args.res.now c.loop-i.i c.loop-i-test.true below ∙
-          ap (λ (k : ℕ). take k c.args.numbers.now ++ drop k c.args.res.now) (sym (add-one c.loop-i.i)),
-      length-set c.loop-i.res c.loop-i.i (get_or c.args.numbers.now c.loop-i.i 0) ∙ c.loop-i.invariant.2,
-    )
+  omega arith,
+  ap (λ (x : List ℕ). set x c.loop-i.i (get_or c.args.numbers.now c.loop-i.i 0)) c.loop-i.invariant.1 ∙
+      store c.args.numbers.now c.args.res.now c.loop-i.i c.loop-i-test.true below ∙
+      ap (λ (k : ℕ). take k c.args.numbers.now ++ drop k c.args.res.now) (sym (add-one c.loop-i.i)),
+  length-set c.loop-i.res c.loop-i.i (get_or c.args.numbers.now c.loop-i.i 0) ∙ c.loop-i.invariant.2,
+)
 
 pub returns : goal.returns
-returns c = let all : c.loop-i.i ≡ length c.args.numbers.now = omega arith in record { put = c.loop-i.invariant.1 ∙ ap (λ (k : ℕ). take k c.args.numbers.now ++ drop k c.args.res.now) all ∙
-    ap (λ (x : List ℕ). x ++ drop (length c.args.numbers.now) c.args.res.now) (take-length c.args.numbers.now) }
+returns c = let all : c.loop-i.i ≡ length c.args.numbers.now = omega arith in record {
+  put = c.loop-i.invariant.1 ∙ ap (λ (k : ℕ). take k c.args.numbers.now ++ drop k c.args.res.now) all ∙
+      ap (λ (x : List ℕ). x ++ drop (length c.args.numbers.now) c.args.res.now) (take-length c.args.numbers.now);
+}

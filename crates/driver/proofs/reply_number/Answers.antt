@@ -11,4 +11,4 @@ unfolding shown_reply
 returns-in-Refused c = record { number = sym (ap (λ (x : Reply). (shown_reply x).number) c.in-Refused.is) }
 
 pub returns : goal.returns
-returns c = record { number = reply_unrefused _ c.in_default.keys2 }
+returns c = record { number = reply_unrefused _ c.in_default.not-Refused }

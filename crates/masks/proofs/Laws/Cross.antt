@@ -15,7 +15,7 @@ use Rattle.sets.specs.declared.Set.{Set}
 use Rattle.sets.specs.Sets.{set_of, has, both, either}
 use Rattle.sides.specs.Sides.{is_mark, left_mark, left_set}
 use Rattle.masks.specs.Table.{split_mark}
-use Rattle.sets.proofs.Laws.Sets.{has-set_lem, set_same, both_sets, either_sets}
+use Rattle.sets.proofs.Laws.Sets.{has-set, set_same, both_sets, either_sets}
 use Rattle.sides.proofs.Laws.{is_mark_lem}
 
 -- ---- the side test with its points rotated
@@ -32,10 +32,10 @@ fork true false true d n = absurd (n refl refl)
 fork true false false d n = refl
 fork false b c d n = refl
 
-four-sides :
+four_sides :
     (p q r i : Point) → cond (cond (left_of p r i) (left_of r q i) false) true (cond (left_of r p i) (left_of q r i) false) ≡ opposite (area2 r i p) (area2 r i q)
 unfolding opposite
-four-sides p q r i =
+four_sides p q r i =
     fork (left_of p r i) (left_of r q i) (left_of r p i) (left_of q r i) (λ a c. clash (tells_yes left_of_tells a) (weak (tells_yes left_of_tells c)))
     ∙ (λ t. cond (left_turn r i p t) (right_turn r i q t) (cond (right_turn r i p t) (left_turn r i q t) false))
 
@@ -62,13 +62,13 @@ all_marks false Q false I a b c d o e = refl
 module _ (m : List ℤ) (p q r : ℕ) where
   split_mark_lem : (i : ℕ) → either (both (left_mark m p r) (left_mark m r q)) (both (left_mark m r p) (left_mark m q r)) i ≡ split_mark m p q r i
   unfolding either both left_mark split_mark
-  split_mark_lem i = all_marks (is_mark m p) (is_mark m q) (is_mark m r) (is_mark m i) _ _ _ _ _ (four-sides (mark m p) (mark m q) (mark m r) (mark m i))
+  split_mark_lem i = all_marks (is_mark m p) (is_mark m q) (is_mark m r) (is_mark m i) _ _ _ _ _ (four_sides (mark m p) (mark m q) (mark m r) (mark m i))
 
-  pub split-four :
+  pub split_four :
       {x y z w u v s : Set} → x ≡ left_set m p r → y ≡ left_set m r q → z ≡ left_set m r p → w ≡ left_set m q r →
       u ≡ set_of (both (has x) (has y)) → v ≡ set_of (both (has z) (has w)) → s ≡ set_of (either (has u) (has v)) → s ≡ set_of (split_mark m p q r)
   unfolding left_set
-  split-four ex ey ez ew eu ev es =
+  split_four ex ey ez ew eu ev es =
       es
       ∙ (λ i. set_of (either
       (has ((eu ∙ (λ j. set_of (both (has (ex j)) (has (ey j)))) ∙ both_sets (left_mark m p r) (left_mark m r q)) i))
@@ -78,15 +78,15 @@ module _ (m : List ℤ) (p q r : ℕ) where
 
   -- ---- what they say of rule 4: r strictly left and s strictly right of p to q
   module _ (s : ℕ) (hp : IsMark m p) (hq : IsMark m q) (hr : IsMark m r) (hs : IsMark m s) where
-    pub split-crosses :
+    pub split_crosses :
         left_of (mark m p) (mark m q) (mark m r) ≡ true → right_of (mark m p) (mark m q) (mark m s) ≡ true →
         split_mark m p q r s ≡ crosses (mark m p) (mark m q) (mark m r) (mark m s)
     unfolding split_mark crosses opposite
-    split-crosses l t =
+    split_crosses l t =
         cond_yes _ _ (is_mark_lem m p hp) ∙ cond_yes _ _ (is_mark_lem m q hq) ∙ cond_yes _ _ (is_mark_lem m r hr) ∙ cond_yes _ _ (is_mark_lem m s hs)
         ∙ sym (cond_yes _ _ (cond_yes _ _ l ∙ t))
 
-    pub has-crosses :
+    pub has_crosses :
         s < 128 → left_of (mark m p) (mark m q) (mark m r) ≡ true → right_of (mark m p) (mark m q) (mark m s) ≡ true →
         has (set_of (split_mark m p q r)) s ≡ crosses (mark m p) (mark m q) (mark m r) (mark m s)
-    has-crosses h l t = has-set_lem (split_mark m p q r) s h ∙ split-crosses l t
+    has_crosses h l t = has-set (split_mark m p q r) s h ∙ split_crosses l t

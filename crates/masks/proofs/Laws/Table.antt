@@ -17,33 +17,33 @@ use Rattle.plane.specs.Side.{left_of}
 use Rattle.pairs.specs.Pairs.{pair_count, pair_number, pair_of}
 use Rattle.plane.proofs.Laws.Tells.{tells_false, cond_yes, cond_no}
 use Rattle.plane.proofs.Laws.Side.{left_of_tells, same}
-use Rattle.pairs.proofs.Laws.{pair_unique, pair_of-up_lem, pair_of_down, pair_of-below_lem}
+use Rattle.pairs.proofs.Laws.{pair_unique, pair_of_up, pair_of_down, pair_of_below}
 use Rattle.sets.specs.declared.Set.{Set}
 use Rattle.sets.specs.Sets.{set_of}
 use Rattle.sides.specs.Sides.{is_mark, left_mark, left_set}
 use Rattle.masks.specs.Table.{place, entry, Table, Filled, empty_set, put_entry}
 use Rattle.sets.proofs.Laws.Numbers.{split, and_no}
-use Rattle.sets.proofs.Laws.Words.{word-empty_lem}
+use Rattle.sets.proofs.Laws.Words.{word_empty}
 use Rattle.sets.proofs.Laws.Sets.{set_words}
 use Rattle.sides.proofs.Laws.{left_past_p, left_past_q}
 
 -- ---- where no mark is left
-empty-set_lem : (f : ℕ → Bool) → ((i : ℕ) → f i ≡ false) → set_of f ≡ empty_set
+empty-set : (f : ℕ → Bool) → ((i : ℕ) → f i ≡ false) → set_of f ≡ empty_set
 unfolding set_of
-empty-set_lem f h = set_words (word-empty_lem f 0 64 (λ i a b. h i)) (word-empty_lem f 64 64 (λ i a b. h i))
+empty-set f h = set_words (word_empty f 0 64 (λ i a b. h i)) (word_empty f 64 64 (λ i a b. h i))
 
 module _ (m : List ℤ) (p q : ℕ) where
   pub left_none_p : count m ≤ p → left_set m p q ≡ empty_set
   unfolding left_set
-  left_none_p h = empty-set_lem (left_mark m p q) (λ i. left_past_p m p q i h)
+  left_none_p h = empty-set (left_mark m p q) (λ i. left_past_p m p q i h)
 
   pub left_none_q : count m ≤ q → left_set m p q ≡ empty_set
   unfolding left_set
-  left_none_q h = empty-set_lem (left_mark m p q) (λ i. left_past_q m p q i h)
+  left_none_q h = empty-set (left_mark m p q) (λ i. left_past_q m p q i h)
 
   pub left_none_same : p ≡ q → left_set m p q ≡ empty_set
   unfolding left_set left_mark
-  left_none_same e = empty-set_lem (left_mark m p q) at
+  left_none_same e = empty-set (left_mark m p q) at
     where
       off : (i : ℕ) → left_of (mark m p) (mark m q) (mark m i) ≡ false
       off i = ap (λ (x : ℕ). left_of (mark m p) (mark m x) (mark m i)) (sym e) ∙ tells_false left_of_tells (λ h. same h)
@@ -118,7 +118,7 @@ module _ (m : List ℤ) (a b p q : ℕ) (h : a < b) (d : p ≡ a → q ≡ b →
   same_number e = ⊎_elim (λ l. ⊎_elim (λ s. left_none_same m p q s) (λ u. absurd (up u)) (eq-or-lt_of_le l)) (λ u. absurd (down u)) (split p q)
     where
       up : p < q → ⊥
-      up u = let f = pair_unique p q a b u h (sym (pair_of-up_lem p q u) ∙ e) in d f.0 f.1
+      up u = let f = pair_unique p q a b u h (sym (pair_of_up p q u) ∙ e) in d f.0 f.1
 
       down : q < p → ⊥
       down u = let f = pair_unique q p a b u h (sym (pair_of_down p q (omega arith)) ∙ e) in d' f.1 f.0
@@ -146,10 +146,10 @@ is? p q a b = ⊎_elim (λ l. ⊎_elim (λ e. second e) (λ u. off (λ e f. omeg
     second e = ⊎_elim (λ l. ⊎_elim (λ f. here e f) (λ u. off (λ e f. omega arith)) (eq-or-lt_of_le l)) (λ u. off (λ e f. omega arith)) (split q b)
 
 -- one pair more, in both orders
-pub fill-next :
+pub fill_next :
     {m : List ℤ} {t : List ℕ} {s s' : Set} (a b : ℕ) → a < b → b < 128 → Filled m t (pair_number a b) → s ≡ left_set m a b → s' ≡ left_set m b a →
     Filled m (put_entry (put_entry t a b s) b a s') (pair_number a b + 1)
-fill-next {m} {t} {s} {s'} a b h hb f e e' = record { size = put_size (put_entry t a b s) b a s' ∙ size₁; each = λ p q hp hq. at p q hp hq (is? p q a b) (is? p q b a) }
+fill_next {m} {t} {s} {s'} a b h hb f e e' = record { size = put_size (put_entry t a b s) b a s' ∙ size₁; each = λ p q hp hq. at p q hp hq (is? p q a b) (is? p q b a) }
   where
     size₁ : length (put_entry t a b s) ≡ 32768
     size₁ = put_size t a b s ∙ f.size
@@ -164,7 +164,7 @@ fill-next {m} {t} {s} {s'} a b h hb f e e' = record { size = put_size (put_entry
     at p q hp hq (here x y) (off d) =
         put_elsewhere (put_entry t a b s) b a s' p q hq (omega arith) d
         ∙ ap₂ (λ (u v : ℕ). entry (put_entry t a b s) u v) x y ∙ put_here t a b s f.size (omega arith) hb ∙ e
-        ∙ sym (ap₂ (left_set m) x y) ∙ now_stored p q (ap₂ pair_of x y ∙ pair_of-up_lem a b h)
+        ∙ sym (ap₂ (left_set m) x y) ∙ now_stored p q (ap₂ pair_of x y ∙ pair_of_up a b h)
     at p q hp hq (off d) (here x y) =
         ap₂ (λ (u v : ℕ). entry (put_entry (put_entry t a b s) b a s') u v) x y ∙ put_here (put_entry t a b s) b a s' size₁ hb (omega arith) ∙ e'
         ∙ sym (ap₂ (left_set m) x y) ∙ now_stored p q (ap₂ pair_of x y ∙ pair_of_down b a (omega arith))
@@ -184,7 +184,7 @@ fill_end {m} {t} f = record { size = f.size; each = λ p q hp hq. f.each p q hp 
         go false = sym e
 
     all : (p q : ℕ) → (p ≡ q → ⊥) → p < count m → q < count m → cond (ltb (pair_of p q) (pair_count (count m))) (left_set m p q) empty_set ≡ left_set m p q
-    all p q d hp hq = cond_yes _ _ (lt-ltb (pair_of p q) (pair_count (count m)) (pair_of-below_lem p q (count m) d hp hq))
+    all p q d hp hq = cond_yes _ _ (lt-ltb (pair_of p q) (pair_count (count m)) (pair_of_below p q (count m) d hp hq))
 
     at :
         (p q : ℕ) → (p ≤ q) ⊎ (q < p) → (count m ≤ p) ⊎ (p < count m) → (count m ≤ q) ⊎ (q < count m) →
@@ -205,10 +205,10 @@ module _ (p q : ℕ) (t t' : List ℕ) (e : entry t p q ≡ entry t' p q) where
   high_of = ap (λ (s : Set). s.high) e
 
 -- a table is its entries
-entries-unique :
+entries_unique :
     (t t' : List ℕ) → length t ≡ 32768 → length t' ≡ 32768 →
     ((p q : ℕ) → p < 128 → q < 128 → entry t p q ≡ entry t' p q) → t ≡ t'
-entries-unique t t' f g pair = ext_get_or 0 t t' (f ∙ sym g) (λ i h. at i (omega (arith, f)))
+entries_unique t t' f g pair = ext_get_or 0 t t' (f ∙ sym g) (λ i h. at i (omega (arith, f)))
   where
     at : (i : ℕ) → i < 32768 → get_or t i 0 ≡ get_or t' i 0
     at i h = ⊎_elim (λ l. even (omega arith)) (λ l. odd (omega arith)) (split (i % 2) 0)
@@ -223,8 +223,8 @@ entries-unique t t' f g pair = ext_get_or 0 t t' (f ∙ sym g) (λ i h. at i (om
 
 pub table_unique : {m : List ℤ} {t t' : List ℕ} → Table m t → Table m t' → t ≡ t'
 table_unique {m} {t} {t'} f g =
-    entries-unique t t' f.size g.size (λ p q hp hq. f.each p q hp hq ∙ sym (g.each p q hp hq))
+    entries_unique t t' f.size g.size (λ p q hp hq. f.each p q hp hq ∙ sym (g.each p q hp hq))
 
 pub filled_unique : {m : List ℤ} {t t' : List ℕ} {i : ℕ} → Filled m t i → Filled m t' i → t ≡ t'
 filled_unique {m} {t} {t'} f g =
-    entries-unique t t' f.size g.size (λ p q hp hq. f.each p q hp hq ∙ sym (g.each p q hp hq))
+    entries_unique t t' f.size g.size (λ p q hp hq. f.each p q hp hq ∙ sym (g.each p q hp hq))

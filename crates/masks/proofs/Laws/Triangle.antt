@@ -19,22 +19,22 @@ use Rattle.sets.specs.Sets.{set_of, has, lacks, none, both}
 use Rattle.sides.specs.Sides.{left_mark, left_set}
 use Rattle.masks.specs.Table.{in_three, none_left}
 use Rattle.sets.proofs.Laws.Numbers.{all_same, all_short}
-use Rattle.sets.proofs.Laws.Sets.{both_sets, none-set_lem}
+use Rattle.sets.proofs.Laws.Sets.{both_sets, none-set}
 use Rattle.sides.proofs.Laws.{left_right, left_mark_lem, left_past}
 
 -- ---- the test on three left sets
 module _ (m : List ℤ) (p q r : ℕ) where
-  pub none-three :
+  pub none_three :
       {x y z u v : Set} {b : Bool} → x ≡ left_set m p q → y ≡ left_set m q r → z ≡ left_set m r p → u ≡ set_of (both (has x) (has y)) → v ≡ set_of (both (has u) (has z)) → b ≡ none v →
       b ≡ none_left m p q r
   unfolding left_set none_left
-  none-three ex ey ez eu ev eb =
+  none_three ex ey ez eu ev eb =
       eb
       ∙ ap none
       (ev
       ∙ (λ i. set_of (both (has ((eu ∙ (λ j. set_of (both (has (ex j)) (has (ey j)))) ∙ both_sets (left_mark m p q) (left_mark m q r)) i)) (has (ez i))))
       ∙ both_sets (both (left_mark m p q) (left_mark m q r)) (left_mark m r p))
-      ∙ none-set_lem (in_three m p q r)
+      ∙ none-set (in_three m p q r)
 
 -- ---- what it says of the triangle
 -- the triangle turns left: nothing is right of all three sides

@@ -12,7 +12,7 @@ use Rattle.plane.specs.Marks.{count, mark, IsMark, Plate}
 use Rattle.plane.specs.Side.{on_line}
 use Rattle.plane.specs.Edge.{between, on_segment, clear, empty_edge}
 use Rattle.plane.proofs.Laws.Tells.{Tells, tells_dec, tells_map, tells_or, tells_not, tells_eqb, tells_all, tells_false, tells_same, cond_yes, cond_no}
-use Rattle.plane.proofs.Laws.Marks.{marks-apart_lem}
+use Rattle.plane.proofs.Laws.Marks.{marks_apart}
 use Rattle.plane.proofs.Laws.Side.{L, Z, weak, same}
 use Rattle.plane.proofs.Laws.Segment.{On, on_of, on_inner, on_outer, on_flip, on_segment_tells}
 
@@ -98,4 +98,4 @@ module _ {m : List ℤ} {a b : ℕ} {c : Point} where
       Plate m → IsMark m a → IsMark m b → L (mark m a) (mark m b) c →
       ((k : ℕ) → IsMark m k → Z (mark m a) (mark m b) (mark m k) → L (mark m a) (mark m k) c → L (mark m k) (mark m b) c → ⊥) → Empty m a b
   empty_of h p q s f =
-      record { free = λ k l i j o. f k l o.line (on_inner s o (marks-apart_lem h l p i)) (on_outer s o (marks-apart_lem h l q j)) }
+      record { free = λ k l i j o. f k l o.line (on_inner s o (marks_apart h l p i)) (on_outer s o (marks_apart h l q j)) }

@@ -105,8 +105,8 @@ inner_two_sided m a b e = go (every_mark m (not_left m a b)) (every_mark m (not_
     go false false p q n = up (all_miss (not_left m a b) (count m) p) (all_miss (not_right m a b) (count m) q)
 
 -- ---- a hull edge is crossed by nothing
-pub hull-uncrossed_lem : (m : List ℤ) (a b c d : ℕ) → hull_edge m a b ≡ true → IsMark m c → IsMark m d → crosses (mark m a) (mark m b) (mark m c) (mark m d) ≡ false
-hull-uncrossed_lem m a b c d h p q = tells_false (crosses_tells _ _ _ _) (λ x. go (tells_yes (hull_edge_tells m a b) h).1 x)
+pub hull_uncrossed : (m : List ℤ) (a b c d : ℕ) → hull_edge m a b ≡ true → IsMark m c → IsMark m d → crosses (mark m a) (mark m b) (mark m c) (mark m d) ≡ false
+hull_uncrossed m a b c d h p q = tells_false (crosses_tells _ _ _ _) (λ x. go (tells_yes (hull_edge_tells m a b) h).1 x)
   where
     go : OneSided m a b → Crossing (mark m a) (mark m b) (mark m c) (mark m d) → ⊥
     go (none_left n) (inl x) = n c p x.up
@@ -129,14 +129,14 @@ inner_edge_swap m a b =
 
 -- ---- straight lines
 -- if all marks lie on one line, every empty edge is a hull edge
-pub line-hull_lem : (m : List ℤ) (a b : ℕ) → ((k : ℕ) → IsMark m k → Z (mark m a) (mark m b) (mark m k)) → empty_edge m a b ≡ true → hull_edge m a b ≡ true
-line-hull_lem m a b z e = tells_true (hull_edge_tells m a b) (tells_yes (empty_edge_tells m a b) e, none_left (λ k h l. off l (z k h)))
+pub line_hull : (m : List ℤ) (a b : ℕ) → ((k : ℕ) → IsMark m k → Z (mark m a) (mark m b) (mark m k)) → empty_edge m a b ≡ true → hull_edge m a b ≡ true
+line_hull m a b z e = tells_true (hull_edge_tells m a b) (tells_yes (empty_edge_tells m a b) e, none_left (λ k h l. off l (z k h)))
 
 -- marks on a side of the plate split it into hull edges: if no mark lies strictly left of a to b, an empty edge of the line is a hull edge
-pub side-hull :
+pub side_hull :
     (m : List ℤ) (a b c d : ℕ) → ¬ (mark m a ≡ mark m b) → ((k : ℕ) → IsMark m k → ¬ L (mark m a) (mark m b) (mark m k)) →
     Z (mark m a) (mark m b) (mark m c) → Z (mark m a) (mark m b) (mark m d) → empty_edge m c d ≡ true → hull_edge m c d ≡ true
-side-hull m a b c d x n zc zd e = tells_true (hull_edge_tells m c d) (tells_yes (empty_edge_tells m c d) e, go (along? (mark m a) (mark m b) (mark m c) (mark m d)))
+side_hull m a b c d x n zc zd e = tells_true (hull_edge_tells m c d) (tells_yes (empty_edge_tells m c d) e, go (along? (mark m a) (mark m b) (mark m c) (mark m d)))
   where
     right : (k : ℕ) → IsMark m k → N (mark m b) (mark m a) (mark m k)
     right k h = split half

@@ -35,8 +35,8 @@ same_point_tells p q =
     (tells_and (same_number_tells p.x q.x) (same_number_tells p.y q.y))
 
 -- two marks of a plate are different points
-pub marks-apart_lem : {m : List ℤ} {i j : ℕ} → Plate m → IsMark m i → IsMark m j → ¬ (i ≡ j) → ¬ (mark m i ≡ mark m j)
-marks-apart_lem {m} {i} {j} h p q d e = go (dec_lt i j) (dec_lt j i)
+pub marks_apart : {m : List ℤ} {i j : ℕ} → Plate m → IsMark m i → IsMark m j → ¬ (i ≡ j) → ¬ (mark m i ≡ mark m j)
+marks_apart {m} {i} {j} h p q d e = go (dec_lt i j) (dec_lt j i)
   where
     go : Dec (i < j) → Dec (j < i) → ⊥
     go (yes l) x = h.apart i j l q e

@@ -170,9 +170,9 @@ module _ (p q r p' q' r' : Point) where
   unfolding same_side
   side_same = simp (side_left p q r, side_left p' q' r', side_right p q r, side_right p' q' r')
 
-  pub side-opposite_lem : opposite (side p q r) (side p' q' r') ≡ opposite (area2 p q r) (area2 p' q' r')
+  pub side_opposite : opposite (side p q r) (side p' q' r') ≡ opposite (area2 p q r) (area2 p' q' r')
   unfolding opposite
-  side-opposite_lem = simp (side_left p q r, side_left p' q' r', side_right p q r, side_right p' q' r')
+  side_opposite = simp (side_left p q r, side_left p' q' r', side_right p q r, side_right p' q' r')
 
 -- ---- rule 1: the side test keeps its answer when its points rotate, and changes its sign when two are exchanged
 sign_neg : (z : ℤ) → sign (neg_ℤ z) ≡ neg_ℤ (sign z)

@@ -13,7 +13,7 @@ use Rattle.plane.specs.Triangle.{inside, outside, hollow, empty_triangle}
 use Rattle.plane.proofs.Whole.Points.{D}
 use Rattle.plane.proofs.Whole.Signs.{hyp, ◌⊹◌, refute}
 use Rattle.plane.proofs.Laws.Tells.{Tells, tells_map, tells_and, tells_not, tells_unless, tells_pick, tells_all, tells_dec, tells_eqb, tells_same}
-use Rattle.plane.proofs.Laws.Marks.{marks-apart_lem}
+use Rattle.plane.proofs.Laws.Marks.{marks_apart}
 use Rattle.plane.proofs.Laws.Side.{L, N, Z, rot, rot², nrot, nrot², zrot, zswap, weak, flat, clash, off, same, Edge?, inner, border, border?, left_of_tells, right_of_tells, on_line_tells}
 use Rattle.plane.proofs.Laws.Segment.{meet}
 use Rattle.plane.proofs.Laws.Edge.{Empty, empty_edge_tells, empty_swap, empty_gap, empty_of}
@@ -133,7 +133,7 @@ module _ (m : List ℤ) where
           where
             choose : Dec (k ≡ i) → k ≡ i
             choose (yes x) = x
-            choose (no x) = absurd (marks-apart_lem plate hk hi x e)
+            choose (no x) = absurd (marks_apart plate hk hi x e)
 
         go : (k : ℕ) → IsMark m k → Edge? (mark m p) (mark m q) (mark m k) → Edge? (mark m q) (mark m r) (mark m k) → Edge? (mark m r) (mark m p) (mark m k) → Corner p q r k
         go k h (inner a) (inner b) (inner c) = absurd (t.hollow k h (lefts a b c))

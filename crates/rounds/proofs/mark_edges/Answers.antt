@@ -12,7 +12,7 @@ use Rattle.certificates.specs.Plate.{plate}
 use Rattle.rounds.specs.Run.{edge_byte}
 use Rattle.rounds.proofs.Filling.{Filling, filling_none, filling_next, filling_end}
 use Rattle.certificates.proofs.Places.{place, pair_at_first, pair_at_next}
-use Rattle.rounds.proofs.Readiness.{edge-byte_lem, filled_next}
+use Rattle.rounds.proofs.Readiness.{edge_byte_lem, filled_next}
 use Rattle.std.proofs.Common.{rules}
 use Rattle.rounds.proofs.mark_edges.Goals as goal
 
@@ -41,7 +41,7 @@ pub loop-i-smaller : goal.loop-i-smaller
 loop-i-smaller c = let m = c.args.m.now in let q = c.loop-i.invariant.2.size in let n = c.requires.st_len in omega arith
 
 pub loop-i-preserved : goal.loop-i-preserved
-loop-i-preserved c = let q = c.loop-i.invariant.2.size in let n = c.requires.st_len in let g = place c.args.m.now _ c.loop-i.invariant.1 (omega arith) in (omega arith, pair_at_next _ c.next_pair-p.ensures.next c.loop-i.invariant.1, filling_next c.loop-i.invariant.2 _ (omega arith) (c.edge_byte-x.ensures.byte ∙ ap edge_byte c.store_pair.ensures.kind ∙ edge-byte_lem g), filled_next g.number c.store_pair.ensures.filled)
+loop-i-preserved c = let q = c.loop-i.invariant.2.size in let n = c.requires.st_len in let g = place c.args.m.now _ c.loop-i.invariant.1 (omega arith) in (omega arith, pair_at_next _ c.next_pair-p.ensures.next c.loop-i.invariant.1, filling_next c.loop-i.invariant.2 _ (omega arith) (c.edge_byte-x.ensures.byte ∙ ap edge_byte c.store_pair.ensures.kind ∙ edge_byte_lem g), filled_next g.number c.store_pair.ensures.filled)
 
 pub returns-clause-edges : goal.returns-clause-edges
 unfolding all_edges plate

@@ -12,7 +12,7 @@ use Rattle.certificates.specs.Plate.{plate}
 use Rattle.rounds.specs.Run.{edge_byte}
 use Rattle.rounds.proofs.Filling.{Filling, filling_none, filling_next, filling_end}
 use Rattle.certificates.proofs.Places.{place, pair_at_first, pair_at_next}
-use Rattle.rounds.proofs.Readiness.{edge-byte_lem, filled_next}
+use Rattle.rounds.proofs.Readiness.{edge_byte_lem, filled_next}
 use Rattle.std.proofs.Common.{rules}
 use Rattle.rounds.proofs.mark_edges.Given as goal
 

@@ -8,14 +8,14 @@ use Rattle.pairs.specs.Pairs.{pair_at}
 use Rattle.striking.specs.Search.{going, visit, visits}
 use Rattle.certificates.specs.Plate.{plate}
 use Rattle.rounds.specs.Run.{as_state, state_by, Ready}
-use Rattle.rounds.proofs.Turns.{visits-none_lem, visits_more}
+use Rattle.rounds.proofs.Turns.{visits_none, visits_more}
 use Rattle.certificates.proofs.Places.{place, pair_at_first, pair_at_next}
 use Rattle.std.proofs.Common.{rules}
 use Rattle.rounds.proofs.round.Goals as goal
 
 pub loop-i-init : goal.loop-i-init
 unfolding as_state state_by
-loop-i-init c = (search rules, pair_at_first, c.requires, sym (visits-none_lem _ _ _))
+loop-i-init c = (search rules, pair_at_first, c.requires, sym (visits_none _ _ _))
 
 pub visit-run-requires-clause-ready_2 : goal.visit-run-requires-clause-ready_2
 visit-run-requires-clause-ready_2 c = let r = c.loop-i.invariant.2 in let q = r.long in let n = c.requires.long in let g = place c.args.m.now _ c.loop-i.invariant.1 (omega arith) in r

@@ -8,7 +8,7 @@ use Rattle.pairs.specs.Pairs.{pair_at}
 use Rattle.striking.specs.Search.{going, visit, visits}
 use Rattle.certificates.specs.Plate.{plate}
 use Rattle.rounds.specs.Run.{as_state, state_by, Ready}
-use Rattle.rounds.proofs.Turns.{visits-none_lem, visits_more}
+use Rattle.rounds.proofs.Turns.{visits_none, visits_more}
 use Rattle.certificates.proofs.Places.{place, pair_at_first, pair_at_next}
 use Rattle.std.proofs.Common.{rules}
 use Rattle.rounds.proofs.round.Given as goal

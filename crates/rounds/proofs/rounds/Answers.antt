@@ -6,7 +6,7 @@ use borrow.Author.Tests.{not-true, not-false}
 use Rattle.striking.specs.Search.{rounds, search_from}
 use Rattle.certificates.specs.Plate.{plate}
 use Rattle.rounds.specs.Run.{as_final, outcome_by, Ready}
-use Rattle.rounds.proofs.Turns.{rounds-over_lem, rounds-done, rounds_again, round_cost}
+use Rattle.rounds.proofs.Turns.{rounds_over, rounds_done, rounds_again, round_cost}
 use Rattle.std.proofs.Common.{rules}
 use Rattle.rounds.proofs.rounds.Goals as goal
 
@@ -28,7 +28,7 @@ round-run-requires c = c.loop-run.invariant.1
 
 pub returns-in_default-clause-searched : goal.returns-in_default-clause-searched
 unfolding plate
-returns-in_default-clause-searched c = rounds-over_lem _ _ c.loop-run.invariant.2 _ _ _ _ c.round-run.ensures.visited c.in_default.not-Going ∙ c.loop-run.invariant.4
+returns-in_default-clause-searched c = rounds_over _ _ c.loop-run.invariant.2 _ _ _ _ c.round-run.ensures.visited c.in_default.not-Going ∙ c.loop-run.invariant.4
 
 pub returns-in_default-clause-ready : goal.returns-in_default-clause-ready
 unfolding plate
@@ -36,7 +36,7 @@ returns-in_default-clause-ready c = c.round-run.ensures.ready
 
 pub returns-then-not-run-clause-searched : goal.returns-then-not-run-clause-searched
 unfolding plate as_final outcome_by
-returns-then-not-run-clause-searched c = rounds-done _ _ c.loop-run.invariant.2 _ _ _ _ c.round-run.ensures.visited c.in-Going.is (not-true _ c.if-not-run.true) ∙ c.loop-run.invariant.4
+returns-then-not-run-clause-searched c = rounds_done _ _ c.loop-run.invariant.2 _ _ _ _ c.round-run.ensures.visited c.in-Going.is (not-true _ c.if-not-run.true) ∙ c.loop-run.invariant.4
 
 pub returns-then-not-run-clause-ready : goal.returns-then-not-run-clause-ready
 unfolding plate as_final outcome_by

@@ -6,7 +6,7 @@ use borrow.Author.Tests.{not-true, not-false}
 use Rattle.striking.specs.Search.{rounds, search_from}
 use Rattle.certificates.specs.Plate.{plate}
 use Rattle.rounds.specs.Run.{as_final, outcome_by, Ready}
-use Rattle.rounds.proofs.Turns.{rounds-over_lem, rounds-done, rounds_again, round_cost}
+use Rattle.rounds.proofs.Turns.{rounds_over, rounds_done, rounds_again, round_cost}
 use Rattle.std.proofs.Common.{rules}
 use Rattle.rounds.proofs.rounds.Given as goal
 

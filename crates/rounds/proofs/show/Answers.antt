@@ -9,7 +9,7 @@ use Rattle.striking.specs.Status.{remaining, status_byte, statuses}
 use Rattle.certificates.specs.Plate.{plate}
 use Rattle.rounds.proofs.Filling.{Filling, filling_none, filling_next, filling_end}
 use Rattle.certificates.proofs.Places.{place, pair_at_first, pair_at_next}
-use Rattle.rounds.proofs.Readiness.{ready_same, status-remaining_lem}
+use Rattle.rounds.proofs.Readiness.{ready_same, status_remaining}
 use Rattle.std.proofs.Common.{rules}
 use Rattle.rounds.proofs.show.Goals as goal
 
@@ -17,7 +17,7 @@ pub loop-i-init : goal.loop-i-init
 loop-i-init c = (search rules, pair_at_first, filling_none _ _)
 
 pub status_byte-x-requires-clause-ready : goal.status_byte-x-requires-clause-ready
-status_byte-x-requires-clause-ready c = ready_same c.loop-i.invariant.2.size (status-remaining_lem (plate c.args.m.now) c.loop-i.invariant.2) c.requires
+status_byte-x-requires-clause-ready c = ready_same c.loop-i.invariant.2.size (status_remaining (plate c.args.m.now) c.loop-i.invariant.2) c.requires
 
 pub status_byte-x-requires-clause-a_lt_b : goal.status_byte-x-requires-clause-a_lt_b
 status_byte-x-requires-clause-a_lt_b c = let n = c.requires.long in let g = place c.args.m.now _ c.loop-i.invariant.1 (omega arith) in g.up
@@ -38,7 +38,7 @@ pub loop-i-smaller : goal.loop-i-smaller
 loop-i-smaller c = let m = c.args.m.now in let q = c.loop-i.invariant.2.size in let n = c.requires.long in omega arith
 
 pub loop-i-preserved : goal.loop-i-preserved
-loop-i-preserved c = let q = c.loop-i.invariant.2.size in let n = c.requires.long in (omega arith, pair_at_next _ c.next_pair-p.ensures.next c.loop-i.invariant.1, filling_next c.loop-i.invariant.2 _ (omega arith) (c.status_byte-x.ensures.status ∙ ap (λ (S : ℕ → Bool). status_byte (plate c.args.m.now) S c.loop-i.i) (status-remaining_lem (plate c.args.m.now) c.loop-i.invariant.2)))
+loop-i-preserved c = let q = c.loop-i.invariant.2.size in let n = c.requires.long in (omega arith, pair_at_next _ c.next_pair-p.ensures.next c.loop-i.invariant.1, filling_next c.loop-i.invariant.2 _ (omega arith) (c.status_byte-x.ensures.status ∙ ap (λ (S : ℕ → Bool). status_byte (plate c.args.m.now) S c.loop-i.i) (status_remaining (plate c.args.m.now) c.loop-i.invariant.2)))
 
 pub returns : goal.returns
 unfolding statuses plate

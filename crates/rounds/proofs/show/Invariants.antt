@@ -9,7 +9,7 @@ use Rattle.striking.specs.Status.{remaining, status_byte, statuses}
 use Rattle.certificates.specs.Plate.{plate}
 use Rattle.rounds.proofs.Filling.{Filling, filling_none, filling_next, filling_end}
 use Rattle.certificates.proofs.Places.{place, pair_at_first, pair_at_next}
-use Rattle.rounds.proofs.Readiness.{ready_same, status-remaining_lem}
+use Rattle.rounds.proofs.Readiness.{ready_same, status_remaining}
 use Rattle.std.proofs.Common.{rules}
 use Rattle.rounds.proofs.show.Given as goal
 

@@ -4,7 +4,7 @@ use native.Mathlib.Omega.{arith}
 use borrow.Author.Tests.{not-true, not-false}
 use Rattle.certificates.specs.Plate.{plate}
 use Rattle.rounds.specs.Run.{as_state, state_by, as_final, outcome_by}
-use Rattle.rounds.proofs.Turns.{turn_over, turn_passes, turn-examines, turn-pauses}
+use Rattle.rounds.proofs.Turns.{turn_over, turn_passes, turn_examines, turn_pauses}
 use Rattle.rounds.proofs.Readiness.{ready_place, due_edge}
 use Rattle.std.proofs.Common.{rules}
 use Rattle.rounds.proofs.visit.Goals as goal
@@ -61,14 +61,14 @@ pub examine-requires-clause-exams_bound : goal.examine-requires-clause-exams_bou
 examine-requires-clause-exams_bound c = let a = c.args in let h = c.requires in let r = c.requires.ready_2 in let u = c.requires.a_lt_b in let k = c.requires.mark in let e = c.requires.i_value in omega arith
 
 pub returns-then-exams-budget-clause-visited : goal.returns-then-exams-budget-clause-visited
-returns-then-exams-budget-clause-visited c = c.examine.ensures.examined ∙ turn-examines (plate c.args.m.now) c.args.budget c.args.i c.args.run c.args.st.now c.in-Going.is (sym c.is_due.ensures.due ∙ not-false _ c.if-not-is_due.false-raw) c.if-exams-budget.true
+returns-then-exams-budget-clause-visited c = c.examine.ensures.examined ∙ turn_examines (plate c.args.m.now) c.args.budget c.args.i c.args.run c.args.st.now c.in-Going.is (sym c.is_due.ensures.due ∙ not-false _ c.if-not-is_due.false-raw) c.if-exams-budget.true
 
 pub returns-then-exams-budget-clause-ready : goal.returns-then-exams-budget-clause-ready
 returns-then-exams-budget-clause-ready c = c.examine.ensures.ready
 
 pub returns-clause-visited : goal.returns-clause-visited
 unfolding as_state state_by as_final outcome_by
-returns-clause-visited c = turn-pauses (plate c.args.m.now) c.args.budget c.args.i c.args.run c.args.st.now c.in-Going.is (sym c.is_due.ensures.due ∙ not-false _ c.if-not-is_due.false-raw) c.if-exams-budget.false
+returns-clause-visited c = turn_pauses (plate c.args.m.now) c.args.budget c.args.i c.args.run c.args.st.now c.in-Going.is (sym c.is_due.ensures.due ∙ not-false _ c.if-not-is_due.false-raw) c.if-exams-budget.false
 
 pub returns-clause-ready : goal.returns-clause-ready
 unfolding as_state state_by as_final outcome_by

@@ -12,7 +12,7 @@ use Rattle.sets.specs.declared.Set.{Set}
 use Rattle.sets.specs.Sets.{set_of, has, both, without}
 use Rattle.sets.proofs.Laws.Numbers.{split, true_false, first_found, first_same}
 use Rattle.sets.proofs.Laws.Words.{without_at, without_off}
-use Rattle.sets.proofs.Laws.Sets.{has-set_lem}
+use Rattle.sets.proofs.Laws.Sets.{has-set}
 
 module _ (s : Set) (k : ℕ) (e : k ≡ first_to 128 (has s)) where
   -- the first member is one, and no number before it is
@@ -27,7 +27,7 @@ module _ (s : Set) (k : ℕ) (e : k ≡ first_to 128 (has s)) where
 
   module _ (r : Set) (q : r ≡ set_of (without (has s) k)) where
     pub has_rest : (i : ℕ) → i < 128 → has r i ≡ without (has s) k i
-    has_rest i l = ap (λ (x : Set). has x i) q ∙ has-set_lem (without (has s) k) i l
+    has_rest i l = ap (λ (x : Set). has x i) q ∙ has-set (without (has s) k) i l
 
     -- the next member comes later: a measure
     pub next_later : (k' : ℕ) → k' ≡ first_to 128 (has r) → k < 128 → k < k'

@@ -26,9 +26,9 @@ pub record Fits (s : Set) : Type 0 where
 pub set_words : {s t : Set} → s.low ≡ t.low → s.high ≡ t.high → s ≡ t
 set_words e f = λ i. record { low = e i; high = f i }
 
-pub set-fits_lem : (f : ℕ → Bool) → Fits (set_of f)
+pub set_fits : (f : ℕ → Bool) → Fits (set_of f)
 unfolding set_of
-set-fits_lem f = record { low_fits = word_lt f 0 64; high_fits = word_lt f 64 64 }
+set_fits f = record { low_fits = word_lt f 0 64; high_fits = word_lt f 64 64 }
 
 -- ---- members
 pub has_low : (s : Set) (i : ℕ) → i < 64 → has s i ≡ in_word s.low 0 i
@@ -40,9 +40,9 @@ unfolding has
 has_high s i h = cond_no _ _ (le-ltb i 64 h)
 
 -- the members of the set of f are the numbers below 128 that have f
-pub has-set_lem : (f : ℕ → Bool) (i : ℕ) → i < 128 → has (set_of f) i ≡ f i
+pub has-set : (f : ℕ → Bool) (i : ℕ) → i < 128 → has (set_of f) i ≡ f i
 unfolding set_of
-has-set_lem f i h =
+has-set f i h =
     ⊎_elim
     (λ l. has_high (set_of f) i l ∙ word_at f 64 64 i l (omega arith))
     (λ l. has_low (set_of f) i l ∙ word_at f 0 64 i (omega arith) (omega arith))
@@ -56,9 +56,9 @@ module _ (s : Set) (h : Fits s) where
   high_word = word_self s.high 64 64 h.high_fits ∙ word_same (in_word s.high 64) (has s) 64 64 (λ i a b. sym (has_high s i a))
 
   -- a set is the set of its members
-  pub set-has_lem : s ≡ set_of (has s)
+  pub set_has : s ≡ set_of (has s)
   unfolding set_of
-  set-has_lem = set_words low_word high_word
+  set_has = set_words low_word high_word
 
 pub set_same : (f g : ℕ → Bool) → ((i : ℕ) → i < 128 → f i ≡ g i) → set_of f ≡ set_of g
 unfolding set_of
@@ -66,19 +66,19 @@ set_same f g h = set_words (word_same f g 0 64 (λ i a b. h i (omega arith))) (w
 
 -- two sets with the same members are one
 pub set_eq : (s t : Set) → Fits s → Fits t → ((i : ℕ) → i < 128 → has s i ≡ has t i) → s ≡ t
-set_eq s t h k e = set-has_lem s h ∙ set_same (has s) (has t) e ∙ sym (set-has_lem t k)
+set_eq s t h k e = set_has s h ∙ set_same (has s) (has t) e ∙ sym (set_has t k)
 
 -- ---- both, either
-pub both-set_lem : (s t : Set) → Fits s → Fits t → record { low = bit_and s.low t.low; high = bit_and s.high t.high } ≡ set_of (both (has s) (has t))
+pub both-set : (s t : Set) → Fits s → Fits t → record { low = bit_and s.low t.low; high = bit_and s.high t.high } ≡ set_of (both (has s) (has t))
 unfolding set_of
-both-set_lem s t h k =
+both-set s t h k =
     set_words
     (ap₂ bit_and (low_word s h) (low_word t k) ∙ word_and (has s) (has t) 0 64)
     (ap₂ bit_and (high_word s h) (high_word t k) ∙ word_and (has s) (has t) 64 64)
 
-pub either-set_lem : (s t : Set) → Fits s → Fits t → record { low = bit_or s.low t.low; high = bit_or s.high t.high } ≡ set_of (either (has s) (has t))
+pub either-set : (s t : Set) → Fits s → Fits t → record { low = bit_or s.low t.low; high = bit_or s.high t.high } ≡ set_of (either (has s) (has t))
 unfolding set_of
-either-set_lem s t h k =
+either-set s t h k =
     set_words
     (ap₂ bit_or (low_word s h) (low_word t k) ∙ word_or (has s) (has t) 0 64)
     (ap₂ bit_or (high_word s h) (high_word t k) ∙ word_or (has s) (has t) 64 64)
@@ -86,11 +86,11 @@ either-set_lem s t h k =
 -- of sets that are given by their members
 pub both_sets : (f g : ℕ → Bool) → set_of (both (has (set_of f)) (has (set_of g))) ≡ set_of (both f g)
 unfolding both
-both_sets f g = set_same (both (has (set_of f)) (has (set_of g))) (both f g) (λ i l. ap₂ (λ (a b : Bool). cond a b false) (has-set_lem f i l) (has-set_lem g i l))
+both_sets f g = set_same (both (has (set_of f)) (has (set_of g))) (both f g) (λ i l. ap₂ (λ (a b : Bool). cond a b false) (has-set f i l) (has-set g i l))
 
 pub either_sets : (f g : ℕ → Bool) → set_of (either (has (set_of f)) (has (set_of g))) ≡ set_of (either f g)
 unfolding either
-either_sets f g = set_same (either (has (set_of f)) (has (set_of g))) (either f g) (λ i l. ap₂ (λ (a b : Bool). cond a true b) (has-set_lem f i l) (has-set_lem g i l))
+either_sets f g = set_same (either (has (set_of f)) (has (set_of g))) (either f g) (λ i l. ap₂ (λ (a b : Bool). cond a true b) (has-set f i l) (has-set g i l))
 
 -- ---- one more, one less
 module _ (f : ℕ → Bool) (k i : ℕ) where
@@ -270,9 +270,9 @@ module _ (s : Set) (h : Fits s) where
           let b = l.within in
           ne_eqb s.high 0 n ∙ sym (all_no (lacks (has s)) (64 + count_trailing_zeros 64 s.high) 128 (omega arith) (ap not l.there))
 
-pub none-set_lem : (f : ℕ → Bool) → none (set_of f) ≡ all_to 128 (lacks f)
+pub none-set : (f : ℕ → Bool) → none (set_of f) ≡ all_to 128 (lacks f)
 unfolding none lacks
-none-set_lem f = all_same (lacks (has (set_of f))) (lacks f) 128 (λ i l. ap not (has-set_lem f i l))
+none-set f = all_same (lacks (has (set_of f))) (lacks f) 128 (λ i l. ap not (has-set f i l))
 
 -- ---- a measure: a set that has lost a member is smaller
 abbrev pub size : Set → ℕ
@@ -291,5 +291,5 @@ pub rest_less : (s r : Set) (k : ℕ) → Fits s → k ≡ first_to 128 (has s) 
 rest_less s r k h e l q =
     let a = without_less (has s) k l ((first_found (has s) 128 k e).there l) in
     let b : size r ≡ size (set_of (without (has s) k)) = ap (λ (x : Set). x.low + x.high) q in
-    let d : size s ≡ size (set_of (has s)) = ap (λ (x : Set). x.low + x.high) (set-has_lem s h) in
+    let d : size s ≡ size (set_of (has s)) = ap (λ (x : Set). x.low + x.high) (set_has s h) in
     omega arith

@@ -49,17 +49,17 @@ word_same f g k (suc j) h =
     ap₂ (λ (x : ℕ) (b : Bool). x * 2 + bit b) (word_same f g (suc k) j (λ i a b. h i (omega arith) (omega arith))) (h k (omega arith) (omega arith))
 
 -- ---- nothing in it
-pub word-empty_lem : (f : ℕ → Bool) (k j : ℕ) → ((i : ℕ) → k ≤ i → i < k + j → f i ≡ false) → word f k j ≡ 0
+pub word_empty : (f : ℕ → Bool) (k j : ℕ) → ((i : ℕ) → k ≤ i → i < k + j → f i ≡ false) → word f k j ≡ 0
 unfolding word
-word-empty_lem f k zero h = refl
-word-empty_lem f k (suc j) h = omega (arith, word-empty_lem f (suc k) j (λ i a b. h i (omega arith) (omega arith)), ap bit (h k (omega arith) (omega arith)))
+word_empty f k zero h = refl
+word_empty f k (suc j) h = omega (arith, word_empty f (suc k) j (λ i a b. h i (omega arith) (omega arith)), ap bit (h k (omega arith) (omega arith)))
 
 -- digits past the last member add nothing
-pub word-short_lem : (f : ℕ → Bool) (k j d : ℕ) → j ≤ d → ((i : ℕ) → k + j ≤ i → i < k + d → f i ≡ false) → word f k j ≡ word f k d
+pub word_short : (f : ℕ → Bool) (k j d : ℕ) → j ≤ d → ((i : ℕ) → k + j ≤ i → i < k + d → f i ≡ false) → word f k j ≡ word f k d
 unfolding word
-word-short_lem f k zero d l h = sym (word-empty_lem f k d (λ i a b. h i (omega arith) b))
-word-short_lem f k (suc j) zero l h = absurd (let z : ⊥ = omega arith in z)
-word-short_lem f k (suc j) (suc d) l h = ap (λ (x : ℕ). x * 2 + bit (f k)) (word-short_lem f (suc k) j d (omega arith) (λ i a b. h i (omega arith) (omega arith)))
+word_short f k zero d l h = sym (word_empty f k d (λ i a b. h i (omega arith) b))
+word_short f k (suc j) zero l h = absurd (let z : ⊥ = omega arith in z)
+word_short f k (suc j) (suc d) l h = ap (λ (x : ℕ). x * 2 + bit (f k)) (word_short f (suc k) j d (omega arith) (λ i a b. h i (omega arith) (omega arith)))
 
 -- ---- digits
 odd_bit : (n : ℕ) → n < 2 → bit (eqb n 1) ≡ n
@@ -161,7 +161,7 @@ word_one x k (suc j) a b = ⊎_elim here (λ l. there l (word_one x (suc k) j l 
     here : k ≡ x → word (one x) k (suc j) ≡ 2 ^ (x - k)
     here e =
         let z : x - k ≡ 0 = omega arith in
-        let w = word-empty_lem (one x) (suc k) j (λ i u v. ne_eqb i x (λ q. omega arith)) in
+        let w = word_empty (one x) (suc k) j (λ i u v. ne_eqb i x (λ q. omega arith)) in
         rw z (omega (arith, w, ap bit (eq-eqb k x e)))
 
     there : k < x → word (one x) (suc k) j ≡ 2 ^ (x - suc k) → word (one x) k (suc j) ≡ 2 ^ (x - k)

@@ -1,7 +1,7 @@
 -- `sets::join` meets its contract. `|` of two words is the word of the digits that either has. Assumes nothing.
-use Rattle.sets.proofs.Laws.Sets.{either-set_lem}
+use Rattle.sets.proofs.Laws.Sets.{either-set}
 use Rattle.std.proofs.Common.{rules}
 use Rattle.sets.proofs.join.Goals as goal
 
 pub returns : goal.returns
-returns c = record { either = either-set_lem _ _ (record { low_fits = search rules; high_fits = search rules }) (record { low_fits = search rules; high_fits = search rules }) }
+returns c = record { either = either-set _ _ (record { low_fits = search rules; high_fits = search rules }) (record { low_fits = search rules; high_fits = search rules }) }

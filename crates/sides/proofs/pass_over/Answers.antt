@@ -7,7 +7,7 @@ use Rattle.plane.specs.Side.{side, is_left, is_right}
 use Rattle.plane.proofs.Laws.Bounds.{back, mark_in_range}
 use Rattle.plane.proofs.Laws.Side.{side_left, side_right}
 use Rattle.sides.specs.Sides.{Passed}
-use Rattle.sides.proofs.Laws.{found, pass_none, pass-down, room}
+use Rattle.sides.proofs.Laws.{found, pass_none, pass_down, room}
 use Rattle.std.proofs.Common.{rules}
 use Rattle.sides.proofs.pass_over.Goals as goal
 
@@ -46,7 +46,7 @@ loop-k-preserved c = let l = c.loop-k in
     let e = (back (record { sfits = c.side-s.type_inv }) ∙ c.side-s.ensures.sided ∙ (λ i. side (c.mark-p.ensures.placed i) (c.mark-q.ensures.placed i) (c.mark.ensures.placed i))) in (
       omega arith,
       omega arith,
-      pass-down l.k c.args.hi (omega arith) (omega arith) (omega arith) c.requires.mark c.requires.mark_2 l.invariant.2
+      pass_down l.k c.args.hi (omega arith) (omega arith) (omega arith) c.requires.mark c.requires.mark_2 l.invariant.2
           (c.is_left.ensures.left ∙ ap is_left e ∙ side_left _ _ _) (c.is_right.ensures.right ∙ ap is_right e ∙ side_right _ _ _)
           c.push-left.ensures.pushed c.push-right.ensures.pushed c.is_still_clear-clear.ensures.clear,
     )

@@ -7,7 +7,7 @@ use Rattle.plane.specs.Side.{side, is_left, is_right}
 use Rattle.plane.proofs.Laws.Bounds.{back, mark_in_range}
 use Rattle.plane.proofs.Laws.Side.{side_left, side_right}
 use Rattle.sides.specs.Sides.{Passed}
-use Rattle.sides.proofs.Laws.{found, pass_none, pass-down, room}
+use Rattle.sides.proofs.Laws.{found, pass_none, pass_down, room}
 use Rattle.std.proofs.Common.{rules}
 use Rattle.sides.proofs.pass_over.Given as goal
 

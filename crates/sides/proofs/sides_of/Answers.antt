@@ -1,6 +1,6 @@
 -- `sides::sides_of` meets its contract. The two halves of the marks make the two words of each set, and the edge is clear where both halves leave it so. Assumes nothing.
 use native.Mathlib.Omega.{arith}
-use Rattle.sides.proofs.Laws.{two-halves}
+use Rattle.sides.proofs.Laws.{two_halves}
 use Rattle.std.proofs.Common.{rules}
 use Rattle.sides.proofs.sides_of.Goals as goal
 
@@ -41,4 +41,4 @@ pub pass_over-y-requires-clause-hi_bound_2 : goal.pass_over-y-requires-clause-hi
 pass_over-y-requires-clause-hi_bound_2 c = let h = c.requires in let few = h.plate.few in let e = c.low_end-h.ensures.end in let d = c.count-n.ensures.counted in omega arith
 
 pub returns : goal.returns
-returns c = record { found = two-halves c.requires.plate c.count-n.ensures.counted c.low_end-h.ensures.end c.pass_over-x.ensures.passed c.pass_over-y.ensures.passed c.and-clear.ensures.and }
+returns c = record { found = two_halves c.requires.plate c.count-n.ensures.counted c.low_end-h.ensures.end c.pass_over-x.ensures.passed c.pass_over-y.ensures.passed c.and-clear.ensures.and }

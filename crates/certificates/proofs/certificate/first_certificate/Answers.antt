@@ -12,9 +12,9 @@ use Rattle.striking.specs.Status.{remaining}
 use Rattle.certificates.specs.Certificate.{first_certificate, pick_fitting, pick_right}
 use Rattle.certificates.specs.Plate.{edges_of}
 use Rattle.certificates.specs.Rows.{candidate, right_candidate}
-use Rattle.certificates.proofs.Open.{Open, open-start, open_at, open_hit, open_end, open_next, open-less}
+use Rattle.certificates.proofs.Open.{Open, open_start, open_at, open_hit, open_end, open_next, open_less}
 use Rattle.certificates.proofs.Stopped.{Stopped, nowhere, somewhere, stopped_nowhere, stopped_somewhere}
-use Rattle.certificates.proofs.Candidates.{candidate-mark_lem, right_mark}
+use Rattle.certificates.proofs.Candidates.{candidate_mark, right_mark}
 use Rattle.certificates.proofs.Apexes.{Given, p_small, q_small, left_miss, right_miss, match_no, match_yes}
 use Rattle.std.proofs.Common.{rules}
 use Rattle.certificates.proofs.certificate.first_certificate.Goals as goal
@@ -59,7 +59,7 @@ stopped c g =
           let pick = match_yes _ _ _ _ g _ e _ h (sym w.is_match.ensures.fits ∙ w.if-is_match.true) in
           rw (w.found_r-is, w.found_s-is)
           (somewhere w.found-is
-          (open_hit i.2 i.1 (candidate-mark_lem _ _ _ _ _ _ _ e) (open_hit j.2 j.1 (right_mark _ _ _ _ _ _ h) pick)))
+          (open_hit i.2 i.1 (candidate_mark _ _ _ _ _ _ _ e) (open_hit j.2 j.1 (right_mark _ _ _ _ _ _ h) pick)))
     ]
 
 pub candidates-rights-requires-clause-table : goal.candidates-rights-requires-clause-table
@@ -100,7 +100,7 @@ candidates-lefts-requires-clause-b_bound c = let g = given (goal.at.candidates-l
 
 pub search-init : goal.search-init
 search-init c = let g = given (goal.at.search-init c).Start in
-    (refl, c.first_of-r.ensures.first, open-start _ _ g.plate.few c.candidates-lefts.ensures.found (left_miss _ _ _ _ g))
+    (refl, c.first_of-r.ensures.first, open_start _ _ g.plate.few c.candidates-lefts.ensures.found (left_miss _ _ _ _ g))
 
 pub splits-across-requires-clause-table : goal.splits-across-requires-clause-table
 splits-across-requires-clause-table c = c.requires.table
@@ -131,29 +131,29 @@ right_candidates-ss-requires-clause-rights_value c = c.candidates-rights.ensures
 
 pub loop-s-init : goal.loop-s-init
 loop-s-init c = let g = given (goal.at.loop-s-init c).Start in
-    let fresh = open-start _ _ g.plate.few c.right_candidates-ss.ensures.found (right_miss _ _ _ _ g _ (left_here (goal.at.loop-s-init c).In-search)) in
+    let fresh = open_start _ _ g.plate.few c.right_candidates-ss.ensures.found (right_miss _ _ _ _ g _ (left_here (goal.at.loop-s-init c).In-search)) in
     (c.search.invariant.0, c.first_of-s.ensures.first, fresh)
 
 pub is_match-requires-clause-plate : goal.is_match-requires-clause-plate
-is_match-requires-clause-plate c = let g = given (goal.at.is_match-requires-clause-plate c).Start in let r_mark = candidate-mark_lem _ _ _ _ _ _ _ (left_here (goal.at.is_match-requires-clause-plate c).In-search) in let s_mark = right_mark _ _ _ _ _ _ (right-here (goal.at.is_match-requires-clause-plate c).In-loop-s) in let across = c.splits-across.ensures.split in g.plate
+is_match-requires-clause-plate c = let g = given (goal.at.is_match-requires-clause-plate c).Start in let r_mark = candidate_mark _ _ _ _ _ _ _ (left_here (goal.at.is_match-requires-clause-plate c).In-search) in let s_mark = right_mark _ _ _ _ _ _ (right-here (goal.at.is_match-requires-clause-plate c).In-loop-s) in let across = c.splits-across.ensures.split in g.plate
 
 pub is_match-requires-clause-table : goal.is_match-requires-clause-table
 is_match-requires-clause-table c = c.requires.table
 
 pub is_match-requires-clause-mark : goal.is_match-requires-clause-mark
-is_match-requires-clause-mark c = let g = given (goal.at.is_match-requires-clause-mark c).Start in let r_mark = candidate-mark_lem _ _ _ _ _ _ _ (left_here (goal.at.is_match-requires-clause-mark c).In-search) in let s_mark = right_mark _ _ _ _ _ _ (right-here (goal.at.is_match-requires-clause-mark c).In-loop-s) in let across = c.splits-across.ensures.split in g.p_mark
+is_match-requires-clause-mark c = let g = given (goal.at.is_match-requires-clause-mark c).Start in let r_mark = candidate_mark _ _ _ _ _ _ _ (left_here (goal.at.is_match-requires-clause-mark c).In-search) in let s_mark = right_mark _ _ _ _ _ _ (right-here (goal.at.is_match-requires-clause-mark c).In-loop-s) in let across = c.splits-across.ensures.split in g.p_mark
 
 pub is_match-requires-clause-mark_2 : goal.is_match-requires-clause-mark_2
-is_match-requires-clause-mark_2 c = let g = given (goal.at.is_match-requires-clause-mark_2 c).Start in let r_mark = candidate-mark_lem _ _ _ _ _ _ _ (left_here (goal.at.is_match-requires-clause-mark_2 c).In-search) in let s_mark = right_mark _ _ _ _ _ _ (right-here (goal.at.is_match-requires-clause-mark_2 c).In-loop-s) in let across = c.splits-across.ensures.split in g.q_mark
+is_match-requires-clause-mark_2 c = let g = given (goal.at.is_match-requires-clause-mark_2 c).Start in let r_mark = candidate_mark _ _ _ _ _ _ _ (left_here (goal.at.is_match-requires-clause-mark_2 c).In-search) in let s_mark = right_mark _ _ _ _ _ _ (right-here (goal.at.is_match-requires-clause-mark_2 c).In-loop-s) in let across = c.splits-across.ensures.split in g.q_mark
 
 pub is_match-requires-clause-mark_3 : goal.is_match-requires-clause-mark_3
-is_match-requires-clause-mark_3 c = let g = given (goal.at.is_match-requires-clause-mark_3 c).Start in let r_mark = candidate-mark_lem _ _ _ _ _ _ _ (left_here (goal.at.is_match-requires-clause-mark_3 c).In-search) in let s_mark = right_mark _ _ _ _ _ _ (right-here (goal.at.is_match-requires-clause-mark_3 c).In-loop-s) in let across = c.splits-across.ensures.split in r_mark
+is_match-requires-clause-mark_3 c = let g = given (goal.at.is_match-requires-clause-mark_3 c).Start in let r_mark = candidate_mark _ _ _ _ _ _ _ (left_here (goal.at.is_match-requires-clause-mark_3 c).In-search) in let s_mark = right_mark _ _ _ _ _ _ (right-here (goal.at.is_match-requires-clause-mark_3 c).In-loop-s) in let across = c.splits-across.ensures.split in r_mark
 
 pub is_match-requires-clause-mark_4 : goal.is_match-requires-clause-mark_4
-is_match-requires-clause-mark_4 c = let g = given (goal.at.is_match-requires-clause-mark_4 c).Start in let r_mark = candidate-mark_lem _ _ _ _ _ _ _ (left_here (goal.at.is_match-requires-clause-mark_4 c).In-search) in let s_mark = right_mark _ _ _ _ _ _ (right-here (goal.at.is_match-requires-clause-mark_4 c).In-loop-s) in let across = c.splits-across.ensures.split in s_mark
+is_match-requires-clause-mark_4 c = let g = given (goal.at.is_match-requires-clause-mark_4 c).Start in let r_mark = candidate_mark _ _ _ _ _ _ _ (left_here (goal.at.is_match-requires-clause-mark_4 c).In-search) in let s_mark = right_mark _ _ _ _ _ _ (right-here (goal.at.is_match-requires-clause-mark_4 c).In-loop-s) in let across = c.splits-across.ensures.split in s_mark
 
 pub is_match-requires-clause-across_value : goal.is_match-requires-clause-across_value
-is_match-requires-clause-across_value c = let g = given (goal.at.is_match-requires-clause-across_value c).Start in let r_mark = candidate-mark_lem _ _ _ _ _ _ _ (left_here (goal.at.is_match-requires-clause-across_value c).In-search) in let s_mark = right_mark _ _ _ _ _ _ (right-here (goal.at.is_match-requires-clause-across_value c).In-loop-s) in let across = c.splits-across.ensures.split in across
+is_match-requires-clause-across_value c = let g = given (goal.at.is_match-requires-clause-across_value c).Start in let r_mark = candidate_mark _ _ _ _ _ _ _ (left_here (goal.at.is_match-requires-clause-across_value c).In-search) in let s_mark = right_mark _ _ _ _ _ _ (right-here (goal.at.is_match-requires-clause-across_value c).In-loop-s) in let across = c.splits-across.ensures.split in across
 
 pub rest_of-ss-requires-clause-k_value : goal.rest_of-ss-requires-clause-k_value
 rest_of-ss-requires-clause-k_value c = c.loop-s.invariant.1
@@ -162,7 +162,7 @@ pub rest_of-ss-requires-clause-k_bound : goal.rest_of-ss-requires-clause-k_bound
 rest_of-ss-requires-clause-k_bound c = c.loop-s-test.true
 
 pub loop-s-smaller : goal.loop-s-smaller
-loop-s-smaller c = open-less _ _ c.loop-s.invariant.1 c.loop-s-test.true c.rest_of-ss.ensures.rest c.first_of-s-in-loop-s.ensures.first
+loop-s-smaller c = open_less _ _ c.loop-s.invariant.1 c.loop-s-test.true c.rest_of-ss.ensures.rest c.first_of-s-in-loop-s.ensures.first
 
 pub loop-s-preserved : goal.loop-s-preserved
 loop-s-preserved c = let i = c.loop-s.invariant in
@@ -178,7 +178,7 @@ pub rest_of-lefts-requires-clause-k_bound : goal.rest_of-lefts-requires-clause-k
 rest_of-lefts-requires-clause-k_bound c = c.search-test.true
 
 pub search-smaller : goal.search-smaller
-search-smaller c = open-less _ _ c.search.invariant.1 c.search-test.true c.rest_of-lefts.ensures.rest c.first_of-r-in-search.ensures.first
+search-smaller c = open_less _ _ c.search.invariant.1 c.search-test.true c.rest_of-lefts.ensures.rest c.first_of-r-in-search.ensures.first
 
 pub search-preserved : goal.search-preserved
 unfolding pick_right

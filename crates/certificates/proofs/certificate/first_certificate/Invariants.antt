@@ -12,9 +12,9 @@ use Rattle.striking.specs.Status.{remaining}
 use Rattle.certificates.specs.Certificate.{first_certificate, pick_fitting, pick_right}
 use Rattle.certificates.specs.Plate.{edges_of}
 use Rattle.certificates.specs.Rows.{candidate, right_candidate}
-use Rattle.certificates.proofs.Open.{Open, open-start, open_at, open_hit, open_end, open_next, open-less}
+use Rattle.certificates.proofs.Open.{Open, open_start, open_at, open_hit, open_end, open_next, open_less}
 use Rattle.certificates.proofs.Stopped.{Stopped, nowhere, somewhere, stopped_nowhere, stopped_somewhere}
-use Rattle.certificates.proofs.Candidates.{candidate-mark_lem, right_mark}
+use Rattle.certificates.proofs.Candidates.{candidate_mark, right_mark}
 use Rattle.certificates.proofs.Apexes.{Given, p_small, q_small, left_miss, right_miss, match_no, match_yes}
 use Rattle.std.proofs.Common.{rules}
 use Rattle.certificates.proofs.certificate.first_certificate.Given as goal

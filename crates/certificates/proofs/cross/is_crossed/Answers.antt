@@ -9,7 +9,7 @@ use Rattle.sets.specs.Sets.{has}
 use Rattle.sets.proofs.Laws.Members.{first_member, next_later}
 use Rattle.striking.specs.Status.{remaining}
 use Rattle.certificates.specs.Plate.{edges_of}
-use Rattle.certificates.proofs.Crossing.{Passed, pass_start, pass-next, pass-end, from-crosses, from-none}
+use Rattle.certificates.proofs.Crossing.{Passed, pass_start, pass_next, pass_end, from_crosses, from_none}
 use Rattle.std.proofs.Common.{rules}
 use Rattle.certificates.proofs.cross.is_crossed.Goals as goal
 
@@ -41,7 +41,7 @@ pub is_crossed_from-requires-clause-r_bound : goal.is_crossed_from-requires-clau
 is_crossed_from-requires-clause-r_bound c = c.loop-r-test.true
 
 pub returns-then-is_crossed_from : goal.returns-then-is_crossed_from
-returns-then-is_crossed_from c = let l = c.loop-r in let small = c.loop-r-test.true in let left = l.invariant.1.lefts _ small (first_member _ _ l.invariant.0 small) in let hit = sym c.is_crossed_from.ensures.crossed ∙ c.if-is_crossed_from.true in record { crossed = sym (from-crosses _ _ _ _ (record { up = c.requires.p_lt_q; marks = c.requires.mark }) l.r left hit) }
+returns-then-is_crossed_from c = let l = c.loop-r in let small = c.loop-r-test.true in let left = l.invariant.1.lefts _ small (first_member _ _ l.invariant.0 small) in let hit = sym c.is_crossed_from.ensures.crossed ∙ c.if-is_crossed_from.true in record { crossed = sym (from_crosses _ _ _ _ (record { up = c.requires.p_lt_q; marks = c.requires.mark }) l.r left hit) }
 
 pub rest_of-lefts-requires-clause-k_value : goal.rest_of-lefts-requires-clause-k_value
 rest_of-lefts-requires-clause-k_value c = c.loop-r.invariant.0
@@ -57,13 +57,13 @@ loop-r-smaller c = let first = c.loop-r.invariant.0 in
 pub loop-r-preserved : goal.loop-r-preserved
 loop-r-preserved c = let l = c.loop-r in (
   c.first_of-r-in-loop-r.ensures.first,
-  pass-next _ _ _ _ l.r l.invariant.0 c.rest_of-lefts.ensures.rest
+  pass_next _ _ _ _ l.r l.invariant.0 c.rest_of-lefts.ensures.rest
       (sym c.is_crossed_from.ensures.crossed ∙ c.if-is_crossed_from.false) l.invariant.1,
 )
 
 pub returns : goal.returns
 returns c = let l = c.loop-r in record {
   crossed = sym
-      (from-none _ _ _ _ (record { up = c.requires.p_lt_q; marks = c.requires.mark }) c.requires.plate.few c.requires.clean.edges
-      (pass-end _ _ _ _ l.invariant.0 c.loop-r-test.false l.invariant.1));
+      (from_none _ _ _ _ (record { up = c.requires.p_lt_q; marks = c.requires.mark }) c.requires.plate.few c.requires.clean.edges
+      (pass_end _ _ _ _ l.invariant.0 c.loop-r-test.false l.invariant.1));
 }

@@ -9,7 +9,7 @@ use Rattle.sets.specs.Sets.{has}
 use Rattle.sets.proofs.Laws.Members.{first_member, next_later}
 use Rattle.striking.specs.Status.{remaining}
 use Rattle.certificates.specs.Plate.{edges_of}
-use Rattle.certificates.proofs.Crossing.{Passed, pass_start, pass-next, pass-end, from-crosses, from-none}
+use Rattle.certificates.proofs.Crossing.{Passed, pass_start, pass_next, pass_end, from_crosses, from_none}
 use Rattle.std.proofs.Common.{rules}
 use Rattle.certificates.proofs.cross.is_crossed.Given as goal
 

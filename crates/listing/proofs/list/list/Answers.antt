@@ -4,7 +4,7 @@ use Prim.Native.Nat.{ℕ, ◌≤◌}
 use native.Mathlib.Omega.{arith}
 use lib.ListN.{length}
 use Rattle.pairs.specs.Pairs.{pair_count}
-use Rattle.listing.proofs.Listed.{done_listable, paused_listable, listed_refused, listed-done, listed-paused, stands_as}
+use Rattle.listing.proofs.Listed.{done_listable, paused_listable, listed_refused, listed_done, listed_paused, stands_as}
 use Rattle.std.proofs.Common.{rules}
 use Rattle.listing.proofs.list.list.Goals as goal
 
@@ -21,7 +21,7 @@ pub returns-in-Refused : goal.returns-in-Refused
 returns-in-Refused c = let q = c.search-o.ensures in let h = stands_as c.args.out.now (listed_refused c.args.m.now c.args.st.now c.args.budget (sym q.outcome ∙ c.in-Refused.is)) (c.write_refusal.ensures.counted, c.write_refusal.ensures.written) in record { counted = h.0; written = h.1; status = q.status }
 
 pub returns-in-Done : goal.returns-in-Done
-returns-in-Done c = let q = c.search-o.ensures in let h = stands_as c.args.out.now (listed-done c.args.m.now c.args.st.now c.args.budget (sym q.outcome ∙ c.in-Done.is) q.status c.count.ensures.counted) (c.write_listing.ensures.counted, c.write_listing.ensures.written) in record { counted = h.0; written = h.1; status = q.status }
+returns-in-Done c = let q = c.search-o.ensures in let h = stands_as c.args.out.now (listed_done c.args.m.now c.args.st.now c.args.budget (sym q.outcome ∙ c.in-Done.is) q.status c.count.ensures.counted) (c.write_listing.ensures.counted, c.write_listing.ensures.written) in record { counted = h.0; written = h.1; status = q.status }
 
 pub returns-in-Paused : goal.returns-in-Paused
-returns-in-Paused c = let q = c.search-o.ensures in let h = stands_as c.args.out.now (listed-paused c.args.m.now c.args.st.now c.args.budget (sym q.outcome ∙ c.in-Paused.is) q.status c.count-in-Paused.ensures.counted) (c.write_listing-in-Paused.ensures.counted, c.write_listing-in-Paused.ensures.written) in record { counted = h.0; written = h.1; status = q.status }
+returns-in-Paused c = let q = c.search-o.ensures in let h = stands_as c.args.out.now (listed_paused c.args.m.now c.args.st.now c.args.budget (sym q.outcome ∙ c.in-Paused.is) q.status c.count-in-Paused.ensures.counted) (c.write_listing-in-Paused.ensures.counted, c.write_listing-in-Paused.ensures.written) in record { counted = h.0; written = h.1; status = q.status }

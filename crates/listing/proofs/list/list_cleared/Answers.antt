@@ -4,7 +4,7 @@ use mathlib.Core.List.{List, ◌++◌}
 use Prim.Native.Nat.{ℕ}
 use lib.ListN.{drop}
 use lib.Seq.{length-take-le}
-use Rattle.listing.proofs.Listed.{part_room, part_cleared, listed_cleared, listed-status, stands_as}
+use Rattle.listing.proofs.Listed.{part_room, part_cleared, listed_cleared, listed_status, stands_as}
 use Rattle.std.proofs.Common.{rules}
 use Rattle.listing.proofs.list.list_cleared.Goals as goal
 
@@ -21,5 +21,5 @@ returns c = let room = c.status_room-k in let h = c.list.ensures in let text =
       counted = text.0;
       written = text.1;
       status = ap (λ (x : List ℕ). x ++ drop room.result c.args.st.now) h.status ∙
-          listed-status c.args.m.now c.args.budget room.ensures.room c.requires.st_value;
+          listed_status c.args.m.now c.args.budget room.ensures.room c.requires.st_value;
     }

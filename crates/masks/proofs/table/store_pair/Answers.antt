@@ -6,7 +6,7 @@ use native.Mathlib.Omega.{arith}
 use Rattle.pairs.specs.Pairs.{pair_number}
 use Rattle.masks.specs.Table.{Filled, put_entry}
 use Rattle.sides.proofs.Laws.{kind_found}
-use Rattle.masks.proofs.Laws.Table.{fill-next}
+use Rattle.masks.proofs.Laws.Table.{fill_next}
 use Rattle.std.proofs.Common.{rules}
 use Rattle.masks.proofs.table.store_pair.Goals as goal
 
@@ -16,4 +16,4 @@ returns-clause-kind c = let s = c in let a = s.args in let h = s.requires in let
 pub returns-clause-filled : goal.returns-clause-filled
 returns-clause-filled c = let s = c in let a = s.args in let h = s.requires in let few = c.requires.plate.few in let hb = c.requires.mark in let x = c.sides_of-x.ensures.found in subst (λ (t : List ℕ). Filled a.m.now t (pair_number a.a a.b + 1))
     (sym (c.put_entry-2.ensures.put ∙ ap (λ (t : List ℕ). put_entry t a.b a.a c.sides_of-x.result.right) c.put_entry.ensures.put))
-    (fill-next a.a a.b c.requires.a_lt_b (omega arith) c.requires.filled_2 x.lefts x.rights)
+    (fill_next a.a a.b c.requires.a_lt_b (omega arith) c.requires.filled_2 x.lefts x.rights)

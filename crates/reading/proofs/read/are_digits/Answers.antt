@@ -7,12 +7,12 @@ use borrow.Author.Tests.{not-true, not-false}
 use Rattle.plane.specs.Numbers.{all_to}
 use Rattle.plane.proofs.Laws.Numbers.{all_more, all_no, all_end}
 use Rattle.reading.specs.Text.{digit_from, all_digits}
-use Rattle.reading.proofs.Text.{digits-none_lem, digit_is}
+use Rattle.reading.proofs.Text.{digits_none, digit_is}
 use Rattle.std.proofs.Common.{rules}
 use Rattle.reading.proofs.read.are_digits.Goals as goal
 
 pub loop-i-init : goal.loop-i-init
-loop-i-init c = (search rules, search rules, digits-none_lem _ _)
+loop-i-init c = (search rules, search rules, digits_none _ _)
 
 pub bounds-text-i : goal.bounds-text-i
 bounds-text-i c = omega arith

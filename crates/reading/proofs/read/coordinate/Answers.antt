@@ -11,7 +11,7 @@ use mir.ValLaws.{to_z_pos}
 use Rattle.plane.proofs.Laws.Bounds.{rd, back}
 use Rattle.plane.proofs.Laws.Tells.{cond_yes, cond_no}
 use Rattle.reading.specs.Text.{dash, starts_with, is_number, coordinate_of}
-use Rattle.reading.proofs.Text.{part_next, starts_some, dash-number_lem, plain_number, number_wider, number-below_lem}
+use Rattle.reading.proofs.Text.{part_next, starts_some, dash_number, plain_number, number_wider, number_below}
 use Rattle.std.proofs.Common.{rules}
 use Rattle.reading.proofs.read.coordinate.Goals as goal
 use Rattle.reading.proofs.read.coordinate.Goals.{After-number, After-number-2, Else-starts_with, Then-starts_with}
@@ -32,7 +32,7 @@ dashed : (c : Then-starts_with) → starts_with dash c.args.text.now c.args.a c.
 dashed c = sym c.starts_with.ensures.starts ∙ c.if-starts_with.true
 
 rest : (c : Then-starts_with) → is_number 7 c.args.text.now (c.args.a + 1) c.args.e ≡ true
-rest c = dash-number_lem _ _ _ c.requires.e_value (dashed c)
+rest c = dash_number _ _ _ c.requires.e_value (dashed c)
 
 plain : (c : Else-starts_with) → starts_with dash c.args.text.now c.args.a c.args.e ≡ false
 plain c = sym c.starts_with.ensures.starts ∙ c.if-starts_with.false
@@ -41,10 +41,10 @@ whole : (c : Else-starts_with) → is_number 7 c.args.text.now c.args.a c.args.e
 whole c = plain_number _ _ _ c.requires.e_value (plain c)
 
 below : (c : After-number) → is_number 7 c.args.text.now (c.args.a + 1) c.args.e ≡ true → c.number.result < 10000000
-below c h = subst (λ (n : ℕ). n < 10000000) (sym c.number.ensures.valued) (number-below_lem _ _ _ 7 h)
+below c h = subst (λ (n : ℕ). n < 10000000) (sym c.number.ensures.valued) (number_below _ _ _ 7 h)
 
 below-2 : (c : After-number-2) → is_number 7 c.args.text.now c.args.a c.args.e ≡ true → c.number-2.result < 10000000
-below-2 c h = subst (λ (n : ℕ). n < 10000000) (sym c.number-2.ensures.valued) (number-below_lem _ _ _ 7 h)
+below-2 c h = subst (λ (n : ℕ). n < 10000000) (sym c.number-2.ensures.valued) (number_below _ _ _ 7 h)
 
 pub number-requires-clause-part : goal.number-requires-clause-part
 number-requires-clause-part c = part_next _ _ _ c.requires.part (starts_some _ _ _ _ (dashed (goal.at.number-requires-clause-part c).Then-starts_with))

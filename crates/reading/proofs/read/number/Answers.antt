@@ -4,7 +4,7 @@ use Prim.Native.Nat.{ℕ, ◌+◌, ◌*◌, ◌-◌, ◌≤◌, ◌<◌}
 use native.Mathlib.Numerals.{add-one}
 use native.Mathlib.Omega.{arith}
 use Rattle.reading.specs.Text.{byte_at, spelled}
-use Rattle.reading.proofs.Text.{digit_range, number-length_lem, number-digit_lem, value_small}
+use Rattle.reading.proofs.Text.{digit_range, number-length, number_digit, value_small}
 use Rattle.std.proofs.Common.{rules}
 use Rattle.reading.proofs.read.number.Goals as goal
 use Rattle.reading.proofs.read.number.Goals.{In-loop-k}
@@ -13,13 +13,13 @@ use Rattle.reading.proofs.read.number.Goals.{In-loop-k}
 passed : (c : In-loop-k) → c.loop-k.v < 100000000
 passed c =
     let s = c in
-    let l = number-length_lem _ _ _ _ s.requires.e_value in
+    let l = number-length _ _ _ _ s.requires.e_value in
     let b = value_small _ _ _ _ s.requires.e_value c.loop-k.k 8 (omega arith) (omega arith) in
     omega arith
 
 -- the next byte is a digit
 next : (c : In-loop-k) → (48 ≤ byte_at c.args.text.now (c.args.a + c.loop-k.k)) × (byte_at c.args.text.now (c.args.a + c.loop-k.k) ≤ 57)
-next c = digit_range _ (number-digit_lem _ _ _ _ c.requires.e_value c.loop-k.k (omega arith))
+next c = digit_range _ (number_digit _ _ _ _ c.requires.e_value c.loop-k.k (omega arith))
 
 pub loop-k-init : goal.loop-k-init
 unfolding spelled

@@ -4,7 +4,7 @@ use Prim.Native.Nat.{ℕ, ◌+◌, ◌*◌, ◌-◌, ◌≤◌, ◌<◌}
 use native.Mathlib.Numerals.{add-one}
 use native.Mathlib.Omega.{arith}
 use Rattle.reading.specs.Text.{byte_at, spelled}
-use Rattle.reading.proofs.Text.{digit_range, number-length_lem, number-digit_lem, value_small}
+use Rattle.reading.proofs.Text.{digit_range, number-length, number_digit, value_small}
 use Rattle.std.proofs.Common.{rules}
 use Rattle.reading.proofs.read.number.Given as goal
 

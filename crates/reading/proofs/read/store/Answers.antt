@@ -10,7 +10,7 @@ use lib.ListN.{length, drop, length-set}
 use Rattle.plane.proofs.Laws.Bounds.{back}
 use Rattle.reading.specs.Read.{line_start, is_over, mark_count, numbers_to, numbers_of}
 use Rattle.reading.proofs.Lines.{second_start, over_no, first_there, first_ended}
-use Rattle.reading.proofs.Marks.{MarkLine, mark-line_lem, marks_are, stored_mark}
+use Rattle.reading.proofs.Marks.{MarkLine, mark_line, marks_are, stored_mark}
 use Rattle.std.proofs.Common.{rules}
 use Rattle.reading.proofs.read.store.Goals as goal
 use Rattle.reading.proofs.read.store.Goals.{After-loop-at, After-place_of-at, After-place_of-e}
@@ -21,7 +21,7 @@ ended c = subst (λ (e : ℕ). e < length c.args.text.now) (sym c.place_of-at.en
 line : (c : After-place_of-e) → MarkLine c.args.text.now c.loop-at.k c.loop-at.at c.place_of-s.result c.place_of-e.result
 line c =
     let l = c.loop-at in
-    mark-line_lem _ _ c.requires.readable _ _ _ l.invariant.0 c.place_of-s.ensures.placed c.place_of-e.ensures.placed c.loop-at-test.true
+    mark_line _ _ c.requires.readable _ _ _ l.invariant.0 c.place_of-s.ensures.placed c.place_of-e.ensures.placed c.loop-at-test.true
 
 room : (c : After-place_of-e) → 2 * c.loop-at.k + 2 ≤ length c.loop-at.numbers
 room c = let m = line c in let s = c.requires in omega (arith, m.long, m.ended, s.readable.short, s.numbers_len)

@@ -10,7 +10,7 @@ use lib.ListN.{length, drop, length-set}
 use Rattle.plane.proofs.Laws.Bounds.{back}
 use Rattle.reading.specs.Read.{line_start, is_over, mark_count, numbers_to, numbers_of}
 use Rattle.reading.proofs.Lines.{second_start, over_no, first_there, first_ended}
-use Rattle.reading.proofs.Marks.{MarkLine, mark-line_lem, marks_are, stored_mark}
+use Rattle.reading.proofs.Marks.{MarkLine, mark_line, marks_are, stored_mark}
 use Rattle.std.proofs.Common.{rules}
 use Rattle.reading.proofs.read.store.Given as goal
 

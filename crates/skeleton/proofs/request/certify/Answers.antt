@@ -4,7 +4,7 @@ use native.Mathlib.Omega.{arith}
 use Rattle.certificates.specs.declared.certificate.Certificate.{Certificate}
 use Rattle.skeleton.specs.declared.request.Reply.TheVariants.{Certified}
 use Rattle.skeleton.specs.Answers.{answer_with}
-use Rattle.skeleton.proofs.Asked.{answer_blocked, answer_hull, answer_inner, inner-empty_lem, apexes-apart}
+use Rattle.skeleton.proofs.Asked.{answer_blocked, answer_hull, answer_inner, inner_empty, apexes_apart}
 use Rattle.std.proofs.Common.{rules}
 use Rattle.skeleton.proofs.request.certify.Goals as goal
 
@@ -30,13 +30,13 @@ pub certificate_in-c-requires-clause-mark : goal.certificate_in-c-requires-claus
 certificate_in-c-requires-clause-mark c = c.requires.mark
 
 pub certificate_in-c-requires-clause-b_value : goal.certificate_in-c-requires-clause-b_value
-certificate_in-c-requires-clause-b_value c = inner-empty_lem _ _ _ (sym c.kind_of-k.ensures.kind ∙ c.in-Inner.is)
+certificate_in-c-requires-clause-b_value c = inner_empty _ _ _ (sym c.kind_of-k.ensures.kind ∙ c.in-Inner.is)
 
 pub certificate_of-x-requires-clause-apart : goal.certificate_of-x-requires-clause-apart
-certificate_of-x-requires-clause-apart c = (apexes-apart _ _ _ _ c.requires.plate.few c.requires.a_lt_b c.requires.mark (sym c.certificate_in-c.ensures.first ∙ c.in-Apexes.is)).0
+certificate_of-x-requires-clause-apart c = (apexes_apart _ _ _ _ c.requires.plate.few c.requires.a_lt_b c.requires.mark (sym c.certificate_in-c.ensures.first ∙ c.in-Apexes.is)).0
 
 pub certificate_of-x-requires-clause-apart_2 : goal.certificate_of-x-requires-clause-apart_2
-certificate_of-x-requires-clause-apart_2 c = (apexes-apart _ _ _ _ c.requires.plate.few c.requires.a_lt_b c.requires.mark (sym c.certificate_in-c.ensures.first ∙ c.in-Apexes.is)).1
+certificate_of-x-requires-clause-apart_2 c = (apexes_apart _ _ _ _ c.requires.plate.few c.requires.a_lt_b c.requires.mark (sym c.certificate_in-c.ensures.first ∙ c.in-Apexes.is)).1
 
 pub returns-in-Blocked : goal.returns-in-Blocked
 returns-in-Blocked c = record { answered = c.without.ensures.without ∙ sym (answer_blocked _ _ _ _ (sym c.kind_of-k.ensures.kind ∙ c.in-Blocked.is)) }

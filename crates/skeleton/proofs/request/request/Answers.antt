@@ -4,15 +4,15 @@ use Rattle.refusals.specs.declared.Verdict.{Verdict}
 use Rattle.striking.specs.Status.{remaining}
 use Rattle.certificates.specs.Plate.{edges_of}
 use Rattle.skeleton.specs.Answers.{unless_refused, answer_in, answer_of}
-use Rattle.skeleton.proofs.Table.{accepted-list_lem, accepted-long_lem, accepted_request}
+use Rattle.skeleton.proofs.Table.{accepted_list, accepted_long, accepted_request}
 use Rattle.std.proofs.Common.{rules}
 use Rattle.skeleton.proofs.request.request.Goals as goal
 
 pub certify-requires-clause-plate : goal.certify-requires-clause-plate
-certify-requires-clause-plate c = let e = accepted_request _ _ _ _ (sym c.check_request-v.ensures.answered ∙ c.in-Accepted.is) in accepted-list_lem _ _ e.0
+certify-requires-clause-plate c = let e = accepted_request _ _ _ _ (sym c.check_request-v.ensures.answered ∙ c.in-Accepted.is) in accepted_list _ _ e.0
 
 pub certify-requires-clause-st_len : goal.certify-requires-clause-st_len
-certify-requires-clause-st_len c = let e = accepted_request _ _ _ _ (sym c.check_request-v.ensures.answered ∙ c.in-Accepted.is) in accepted-long_lem _ _ e.0
+certify-requires-clause-st_len c = let e = accepted_request _ _ _ _ (sym c.check_request-v.ensures.answered ∙ c.in-Accepted.is) in accepted_long _ _ e.0
 
 pub certify-requires-clause-a_lt_b : goal.certify-requires-clause-a_lt_b
 certify-requires-clause-a_lt_b c = let e = accepted_request _ _ _ _ (sym c.check_request-v.ensures.answered ∙ c.in-Accepted.is) in e.1.up

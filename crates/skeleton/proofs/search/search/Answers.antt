@@ -4,15 +4,15 @@ use Rattle.refusals.specs.declared.Verdict.{Verdict}
 use Rattle.striking.specs.Search as striking
 use Rattle.certificates.specs.Plate.{plate}
 use Rattle.skeleton.specs.Answers.{outcome_after, outcome_of, bytes_after, status_after}
-use Rattle.skeleton.proofs.Table.{accepted-long_lem, accepted-list_lem}
+use Rattle.skeleton.proofs.Table.{accepted_long, accepted_list}
 use Rattle.std.proofs.Common.{rules}
 use Rattle.skeleton.proofs.search.search.Goals as goal
 
 pub search_plate-requires-clause-plate : goal.search_plate-requires-clause-plate
-search_plate-requires-clause-plate c = let e = sym c.check_search-v.ensures.answered ∙ c.in-Accepted.is in accepted-list_lem _ _ e
+search_plate-requires-clause-plate c = let e = sym c.check_search-v.ensures.answered ∙ c.in-Accepted.is in accepted_list _ _ e
 
 pub search_plate-requires-clause-st_len : goal.search_plate-requires-clause-st_len
-search_plate-requires-clause-st_len c = let e = sym c.check_search-v.ensures.answered ∙ c.in-Accepted.is in accepted-long_lem _ _ e
+search_plate-requires-clause-st_len c = let e = sym c.check_search-v.ensures.answered ∙ c.in-Accepted.is in accepted_long _ _ e
 
 pub returns-in-Refused-clause-outcome : goal.returns-in-Refused-clause-outcome
 unfolding outcome_of outcome_after status_after bytes_after

@@ -9,7 +9,7 @@ use Rattle.certificates.specs.Rows.{Clean}
 use Rattle.skeleton.specs.Answers.{told}
 use Rattle.rounds.specs.Run.{as_final}
 use Rattle.rounds.proofs.Readiness.{clean_start}
-use Rattle.skeleton.proofs.Common.{edges-long_lem}
+use Rattle.skeleton.proofs.Common.{edges_long}
 use Rattle.striking.specs.Search as striking
 use Rattle.std.proofs.Common.{rules}
 use Rattle.skeleton.proofs.search.search_plate.Goals as goal
@@ -29,7 +29,7 @@ fill_rows-requires-clause-plate c = c.requires.plate
 
 pub fill_rows-requires-clause-st_len : goal.fill_rows-requires-clause-st_len
 unfolding plate
-fill_rows-requires-clause-st_len c = ap length c.mark_edges.ensures.edges ∙ edges-long_lem c.args.m.now
+fill_rows-requires-clause-st_len c = ap length c.mark_edges.ensures.edges ∙ edges_long c.args.m.now
 
 pub fill_rows-requires-clause-clean : goal.fill_rows-requires-clause-clean
 unfolding plate
@@ -41,7 +41,7 @@ fill_rows-requires-clause-d_value c = refl
 
 pub rounds-run-requires : goal.rounds-run-requires
 unfolding plate
-rounds-run-requires c = let e = c.mark_edges.ensures in record { accepted = c.requires.plate; long = ap length e.edges ∙ edges-long_lem c.args.m.now; clean = subst (Clean _) (sym e.edges) (clean_start _); table = e.filled; rows = c.fill_rows.ensures.filled }
+rounds-run-requires c = let e = c.mark_edges.ensures in record { accepted = c.requires.plate; long = ap length e.edges ∙ edges_long c.args.m.now; clean = subst (Clean _) (sym e.edges) (clean_start _); table = e.filled; rows = c.fill_rows.ensures.filled }
 
 pub finish-requires : goal.finish-requires
 finish-requires c = c.rounds-run.ensures.ready

@@ -1,6 +1,6 @@
 -- `write::put_pair` meets its contract: each status byte has its line, or none. Assumes nothing.
 use mathlib.Core.Path.{sym}
-use Rattle.writing.proofs.Lines.{pair_possible, pair_certain, pair-none_lem}
+use Rattle.writing.proofs.Lines.{pair_possible, pair_certain, pair_none}
 use Rattle.writing.proofs.Places.{room_is, puts_is, puts_nothing}
 use Rattle.std.proofs.Common.{rules}
 use Rattle.writing.proofs.write.put_pair.Goals as goal
@@ -18,4 +18,4 @@ pub returns-then-status-eq2 : goal.returns-then-status-eq2
 returns-then-status-eq2 c = record { put = puts_is (sym (pair_certain _ _ _ c.if-status-eq2.true)) c.put_pair_line-then-status-eq2.ensures.put }
 
 pub returns : goal.returns
-returns c = record { put = puts_is (sym (pair-none_lem _ _ _ c.if-status-eq1.false c.if-status-eq2.false)) (puts_nothing _ _) }
+returns c = record { put = puts_is (sym (pair_none _ _ _ c.if-status-eq1.false c.if-status-eq2.false)) (puts_nothing _ _) }

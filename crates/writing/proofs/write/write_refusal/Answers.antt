@@ -4,7 +4,7 @@ use mathlib.Core.List.{◌++◌}
 use native.Mathlib.Omega.{arith}
 use Rattle.writing.specs.Digits.{digits}
 use Rattle.writing.specs.Listing.{refused_word, Room}
-use Rattle.writing.proofs.Lengths.{refused-length_lem}
+use Rattle.writing.proofs.Lengths.{refused-length}
 use Rattle.writing.proofs.Lines.{ended, refused_is}
 use Rattle.writing.proofs.Places.{room_first, room_is, room_rest, puts_is, puts_then, start_length, start_filled}
 use Rattle.std.proofs.Common.{rules}
@@ -16,7 +16,7 @@ fields : (c : Start) → Room c.args.out.now 0 (ended refused_word 32 ++ (ended 
 fields c =
     let a = c.args in
     room_is (refused_is a.number a.detail)
-    (record { fits = omega (arith, c.requires, refused-length_lem a.number a.detail c.ranges.number.fits c.ranges.detail.fits) })
+    (record { fits = omega (arith, c.requires, refused-length a.number a.detail c.ranges.number.fits c.ranges.detail.fits) })
 
 pub put_number-third-requires : goal.put_number-third-requires
 put_number-third-requires c = room_first _ (room_rest (fields (goal.at.put_number-third-requires c).Start) c.put_word-second.ensures.put)
