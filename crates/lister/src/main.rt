@@ -6,8 +6,9 @@
 ghost use Rattle.std.specs.Prelude.{◌≤◌, length};
 ghost use Rattle.lister.specs.Input.{bytes_of};
 
-use libc::{STDERR_FILENO, STDIN_FILENO, STDOUT_FILENO};
 use listing::list::answer;
+use std::io;
+use std::io::{Read, Write};
 
 #[derive(Clone, Copy)]
 enum Input {
@@ -18,16 +19,14 @@ enum Input {
 }
 
 // Reads until the input ends, the buffer is full or a read fails.
-fn read_input(text: &mut [u8]) -> Input
+fn read_input(input: &mut impl Read, text: &mut [u8]) -> Input
     ensures fits { bytes_of result ≤ length text.new }
 {
     let mut n = 0;
     while n < text.len() {
-        let got = libc::read(STDIN_FILENO, &mut text[n..]);
-        if got < 0 {
+        let Ok(k) = input.read(&mut text[n..]) else {
             return Input::Failed;
-        }
-        let k = io::count(got, &text[n..]);
+        };
         if k == 0 {
             return Input::Read(n);
         }
@@ -37,37 +36,38 @@ fn read_input(text: &mut [u8]) -> Input
 }
 
 // Reads what is left of the input, so that whoever writes it is not cut off. After 65,536 reads it stops.
-fn drain() {
-    let mut rest = io::large_buffer();
-    let mut i: u32 = 0;
-    while i < 65536 {
-        if io::count(libc::read(STDIN_FILENO, &mut rest), &rest) == 0 {
+fn drain(input: &mut impl Read) {
+    let mut rest = [0u8; 65536];
+    for _ in 0..65536 {
+        let Ok(k) = input.read(&mut rest) else {
+            return;
+        };
+        if k == 0 {
             return;
         }
-        i += 1;
     }
 }
 
 // Answers the text of the input.
-fn list(text: &[u8]) {
+fn list(output: &mut impl Write, text: &[u8]) -> io::Result<()> {
     let mut status = [0u8; 8128];
     let mut out = [0u8; 138240];
     let k = answer(text, &mut status, &mut out);
-    io::write_all(STDOUT_FILENO, &out[..k]);
+    output.write_all(&out[..k])
 }
 
-fn main() {
+fn main(rt: HostRuntime) -> io::Result<()> {
+    let mut input = rt.stdin();
     let mut text = [0u8; 4097];
-    let x = read_input(&mut text);
-    match x {
-        Input::Failed => {
-            io::write_all(STDERR_FILENO, b"lister: standard input cannot be read\n");
-        }
+    match read_input(&mut input, &mut text) {
+        Input::Failed => rt
+            .stderr()
+            .write_all(b"lister: standard input cannot be read\n"),
         Input::Read(n) => {
             if n == 4097 {
-                drain();
+                drain(&mut input);
             }
-            list(&text[..n]);
+            list(&mut rt.stdout(), &text[..n])
         }
     }
 }

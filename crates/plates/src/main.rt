@@ -4,9 +4,9 @@
 ghost use Rattle.std.specs.Prelude.{◌≡◌, ◌<◌, ◌≤◌, length, get_or};
 ghost use Rattle.plates.specs.Plates.{table};
 
-use libc::STDOUT_FILENO;
 use pairs::pair_count;
 use skeleton::search::{Outcome, search};
+use std::io;
 
 // A row has 24 numbers: how many marks, the budget, 1 for done and 0 for paused, the examinations, the marks with 10 added to each
 // coordinate, the statuses. Places that a plate does not need say nothing.
@@ -86,48 +86,30 @@ fn load_marks(row: usize, marks: &mut [i32])
     }
 }
 
-fn show_outcome(o: Outcome) {
+fn show_outcome(rt: &impl Print, o: Outcome) -> io::Result<()> {
     match o {
-        Outcome::Refused(f) => {
-            io::write_all(STDOUT_FILENO, b"refused ");
-            io::print_decimal(STDOUT_FILENO, f.number as u64);
-            io::write_all(STDOUT_FILENO, b" ");
-            io::print_decimal(STDOUT_FILENO, f.detail as u64);
-        }
-        Outcome::Done(e) => {
-            io::write_all(STDOUT_FILENO, b"done ");
-            io::print_decimal(STDOUT_FILENO, e as u64);
-        }
-        Outcome::Paused(e) => {
-            io::write_all(STDOUT_FILENO, b"paused ");
-            io::print_decimal(STDOUT_FILENO, e as u64);
-        }
+        Outcome::Refused(f) => print!(rt; "refused {} {}", f.number, f.detail),
+        Outcome::Done(e) => print!(rt; "done {e}"),
+        Outcome::Paused(e) => print!(rt; "paused {e}"),
     }
 }
 
-fn wide(x: u8) -> u64 {
-    x as u64
-}
-
-fn show_bytes(st: &[u8]) {
-    let mut i = 0;
-    while i < st.len() {
-        io::write_all(STDOUT_FILENO, b" ");
-        io::print_decimal(STDOUT_FILENO, wide(st[i]));
-        i += 1;
+fn show_bytes(rt: &impl Print, st: &[u8]) -> io::Result<()> {
+    for x in st {
+        print!(rt; " {x}")?;
     }
-    io::write_all(STDOUT_FILENO, b"\n");
+    println!(rt; "")
 }
 
 // Searches, and prints the outcome and the statuses.
-fn show_search(m: &[i32], st: &mut [u8], budget: u32) {
+fn show_search(rt: &impl Print, m: &[i32], st: &mut [u8], budget: u32) -> io::Result<()> {
     let o = search(m, st, budget);
-    show_outcome(o);
-    show_bytes(&*st);
+    show_outcome(rt, o)?;
+    show_bytes(rt, &*st)
 }
 
 // The same, of the plate whose row starts at `row`.
-fn show_plate(row: usize)
+fn show_plate(rt: &impl Print, row: usize) -> io::Result<()>
     requires { row < 289 }
 {
     let n = at_most(entry(row), 5) as usize;
@@ -136,21 +118,19 @@ fn show_plate(row: usize)
     load_marks(row, &mut marks);
     let mut status = [7u8; 10];
     let p = pairs(n);
-    show_search(&marks[..n * 2], &mut status[..p], budget);
+    show_search(rt, &marks[..n * 2], &mut status[..p], budget)
 }
 
 // A list of one number, which no text can give: answer 1, and the lent byte stays.
-fn show_odd() {
+fn show_odd(rt: &impl Print) -> io::Result<()> {
     let one = [5i32; 1];
     let mut status = [7u8; 1];
-    show_search(&one, &mut status, 1000);
+    show_search(rt, &one, &mut status, 1000)
 }
 
-fn main() {
-    let mut k = 0;
-    while k < 13 {
-        show_plate(k * 24);
-        k += 1;
+fn main(rt: HostRuntime) -> io::Result<()> {
+    for k in 0..13 {
+        show_plate(&rt, k * 24)?;
     }
-    show_odd();
+    show_odd(&rt)
 }

@@ -1,0 +1,12 @@
+-- `load_marks` is safe and ends. Assumes nothing.
+use mathlib.Core.Path.{◌≡◌}
+use Prim.Native.Nat.{◌-◌, ◌≤◌}
+use lib.ListN.{length}
+use Rattle.std.proofs.Common.{rules}
+use Rattle.plates.proofs.load_marks.Given as goal
+
+abbrev pub invariant-loop-i : goal.invariant-loop-i
+invariant-loop-i l = (length l.marks ≡ 10) × (l.i ≤ 10)
+
+abbrev pub decreases-loop-i : goal.decreases-loop-i
+decreases-loop-i l = 10 - l.i
