@@ -18,7 +18,6 @@ use Rattle.plane.specs.Cross.{crosses}
 use Rattle.plane.specs.Hull.{not_left, not_right, one_sided, hull_edge, inner_edge}
 use Rattle.plane.specs.Triangle.{inside, outside, hollow, empty_triangle}
 use Rattle.plane.proofs.Laws.Numbers.{all_no}
-use Rattle.pairs.specs.declared.Pair.{Pair}
 use Rattle.plane.proofs.Laws.Tells.{cond_no}
 use Rattle.striking.proofs.Tests.{not_both, is_true, both_first, both_second}
 use Rattle.certificates.specs.Certificate.{joined, crossing, HasCertificate, holds_against, apex, left_apex, right_apex, fits}

@@ -15,7 +15,7 @@
 use Rattle.std.specs.Prelude.{◌≡◌, Bool, true, false, not, cond, List, ℕ, ◌+◌, ◌*◌, ◌≤◌, ◌<◌, eqb, ltb, ℤ, length, get_or, set}
 use Rattle.std.specs.Int.Signed.{le_z}
 use Rattle.plane.specs.Numbers.{all_to}
-use Rattle.plane.specs.Marks.{count, mark, IsMark}
+use Rattle.plane.specs.Marks.{mark, IsMark}
 use Rattle.pairs.specs.Pairs.{pair_number}
 use Rattle.plane.specs.Weight.{weight}
 use Rattle.plane.specs.Edge.{empty_edge}

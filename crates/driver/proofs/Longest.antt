@@ -7,7 +7,6 @@ use native.Mathlib.Omega.{arith}
 use lib.IntN.{ℤ}
 use Rattle.plane.specs.Marks.{count}
 use Rattle.pairs.specs.Pairs.{pair_count}
-use Rattle.striking.specs.Below.{count_below}
 use Rattle.striking.proofs.Counting.{count_small}
 use Rattle.skeleton.specs.declared.search.Outcome.TheVariants.{Paused}
 use Rattle.skeleton.specs.Answers.{outcome_of}

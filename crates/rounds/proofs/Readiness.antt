@@ -10,12 +10,11 @@ use lib.IntN.{ℤ}
 use lib.ListN.{length, get_or, set, length-set}
 use Rattle.pairs.specs.declared.Pair.{Pair}
 use Rattle.plane.specs.Marks.{count, IsMark}
-use Rattle.pairs.specs.Pairs.{pair_count, pair_number, next_pair, pair_at}
+use Rattle.pairs.specs.Pairs.{pair_number}
 use Rattle.plane.specs.Edge.{empty_edge}
 use Rattle.plane.specs.Hull.{one_sided, kind_of}
 use Rattle.plane.specs.declared.hull.Kind.TheVariants.{Blocked, Hull, Inner}
-use native.Mathlib.Numerals.{add-one}
-use Rattle.pairs.proofs.Laws.{pair_at_numbered, pair_at_below, pair_below}
+use Rattle.pairs.proofs.Laws.{pair_below}
 use Rattle.masks.specs.Table.{Filled}
 use Rattle.striking.specs.System.{System, crossed, due}
 use Rattle.striking.specs.Status.{remaining, all_edges, status_byte}

@@ -2,11 +2,9 @@
 -- that the code's stands for. Assumes nothing.
 use mathlib.Core.Path.{◌≡◌, refl, sym, ap, ◌∙◌, subst}
 use mathlib.Core.Bool.{Bool, true, false}
-use mathlib.Core.List.{List, [], ◌∷◌}
-use mathlib.Core.Logic.{◌⊎◌, ⊎_elim}
+use mathlib.Core.List.{List}
 use Prim.Native.Nat.{ℕ, suc, ◌+◌, ◌<◌, ◌≤◌}
 use native.Mathlib.Numerals.{add-one}
-use native.Mathlib.Omega.{arith}
 use lib.IntN.{ℤ}
 use lib.ListN.{set}
 use Rattle.pairs.specs.Pairs.{pair_number}
@@ -19,7 +17,6 @@ use Rattle.striking.proofs.Invariants.{Grown, GrownAt, round_grows}
 use Rattle.certificates.specs.declared.certificate.Pick.{Pick}
 use Rattle.certificates.specs.declared.certificate.Pick.TheVariants.{Nothing, Apexes}
 use Rattle.rounds.specs.declared.Halt.{Halt}
-use Rattle.rounds.specs.contracts.Halt
 use Rattle.rounds.specs.declared.Halt.TheVariants.{Going, Finished, Spent, Stuck}
 use Rattle.rounds.specs.declared.Run.{Run}
 use Rattle.certificates.specs.Certificate.{first_certificate}

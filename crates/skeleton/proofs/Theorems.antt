@@ -29,7 +29,6 @@ use Rattle.striking.specs.Search.{answer8, search_result}
 use Rattle.striking.proofs.Tests.{same_test}
 use Rattle.striking.proofs.Theorems as striking
 use Rattle.skeleton.specs.declared.request.Answer.{Answer}
-use Rattle.skeleton.specs.declared.search.Outcome.{Outcome}
 use Rattle.skeleton.specs.declared.search.Outcome.TheVariants.{Done, Paused}
 use Rattle.certificates.specs.Certificate.{crossing, IsCertificate, HasCertificate, IsFirst, fits, first_certificate}
 use Rattle.certificates.specs.declared.certificate.Pick.TheVariants.{Nothing, Apexes}

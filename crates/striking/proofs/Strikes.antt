@@ -1,6 +1,6 @@
 -- What strikes in any order leave. A hull edge is never struck, nor one that nothing remaining crosses; and a supported set is
 -- never hit, since each of its inner edges keeps its certificate as long as the set remains around it. Assumes nothing.
-use mathlib.Core.Path.{◌≡◌, refl, ◌∙◌, subst}
+use mathlib.Core.Path.{◌≡◌, ◌∙◌, subst}
 use mathlib.Core.Bool.{Bool, true, false}
 use mathlib.Core.List.{List}
 use Prim.Native.Nat.{ℕ}

@@ -18,4 +18,6 @@ four (a ∷ b ∷ c ∷ d ∷ x ∷ l) e = absurd (omega arith)
 
 pub returns : goal.returns
 unfolding certificate_numbers
-returns c = record { numbers = ap (λ (l : List ℕ). c.args.first ∷ c.args.c.r ∷ c.args.c.s ∷ l) (four c.args.c.sides (search rules)) }
+returns c = record {
+  numbers = ap (λ (l : List ℕ). c.args.first ∷ c.args.c.r ∷ c.args.c.s ∷ l) (four c.args.c.sides (search rules));
+}

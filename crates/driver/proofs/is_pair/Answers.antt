@@ -3,7 +3,6 @@ use mathlib.Core.Path.{sym}
 use borrow.Author.Tests.{lt-ltb, le-ltb}
 use Rattle.plane.proofs.Laws.Tells.{cond_yes, cond_no}
 use Rattle.driver.specs.Driver.{is_pair}
-use Rattle.std.proofs.Common.{rules}
 use Rattle.driver.proofs.is_pair.Goals as goal
 
 pub returns-then-a-b : goal.returns-then-a-b

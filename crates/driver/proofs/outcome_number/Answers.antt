@@ -3,7 +3,6 @@ use mathlib.Core.Path.{sym, ap}
 use Rattle.skeleton.specs.declared.search.Outcome.{Outcome}
 use Rattle.skeleton.specs.Answers.{shown_outcome}
 use Rattle.driver.proofs.Replies.{outcome_unrefused}
-use Rattle.std.proofs.Common.{rules}
 use Rattle.driver.proofs.outcome_number.Goals as goal
 
 pub returns-in-Refused : goal.returns-in-Refused

@@ -1,7 +1,6 @@
 -- `outcome_numbers` meets its contract. Assumes nothing.
 use mathlib.Core.Path.{sym, ap}
 use Rattle.driver.specs.Driver.{outcome_numbers}
-use Rattle.std.proofs.Common.{rules}
 use Rattle.driver.proofs.outcome_numbers.Goals as goal
 
 pub returns-in-Refused : goal.returns-in-Refused

@@ -2,13 +2,12 @@
 -- Assumes nothing.
 use mathlib.Core.Path.{◌≡◌, refl, sym, ap, ◌∙◌}
 use mathlib.Core.List.{List, [], ◌∷◌, ◌++◌}
-use Prim.Native.Nat.{ℕ, zero, suc, ◌-◌, ◌+◌, ◌≤◌, ◌<◌}
+use Prim.Native.Nat.{ℕ, zero, suc, ◌<◌}
 use native.Mathlib.Nat.{le_of_suc-le-suc, not-suc-le-zero}
 use native.Mathlib.Numerals.{add-one}
 use native.Mathlib.Omega.{arith}
 use lib.ListN.{length, take, drop, get_or, set, length-set}
 use lib.Seq.{take-length}
-use Rattle.std.proofs.Common.{rules}
 use Rattle.driver.proofs.put.Goals as goal
 
 -- storing one number more
@@ -33,7 +32,9 @@ pub offset_bounds-res-i : goal.offset_bounds-res-i
 offset_bounds-res-i c = omega arith
 
 pub bounds-res-i : goal.bounds-res-i
-bounds-res-i c = let p = c.requires in omega arith
+bounds-res-i c =
+    let p = c.requires in
+    omega arith
 
 pub overflow_add-i : goal.overflow_add-i
 overflow_add-i c = omega arith
@@ -42,16 +43,21 @@ pub loop-i-smaller : goal.loop-i-smaller
 loop-i-smaller c = omega arith
 
 pub loop-i-preserved : goal.loop-i-preserved
-loop-i-preserved c = let below : c.loop-i.i < length c.args.res.now = let p = c.requires in omega arith in (
-  omega arith,
-  ap (λ (x : List ℕ). set x c.loop-i.i (get_or c.args.numbers.now c.loop-i.i 0)) c.loop-i.invariant.1 ∙
-      store c.args.numbers.now c.args.res.now c.loop-i.i c.loop-i-test.true below ∙
-      ap (λ (k : ℕ). take k c.args.numbers.now ++ drop k c.args.res.now) (sym (add-one c.loop-i.i)),
-  length-set c.loop-i.res c.loop-i.i (get_or c.args.numbers.now c.loop-i.i 0) ∙ c.loop-i.invariant.2,
-)
+loop-i-preserved c =
+    let below : c.loop-i.i < length c.args.res.now = let p = c.requires in omega arith in (
+      omega arith,
+      ap (λ (x : List ℕ). set x c.loop-i.i (get_or c.args.numbers.now c.loop-i.i 0)) c.loop-i.invariant.1 ∙
+          store c.args.numbers.now c.args.res.now c.loop-i.i c.loop-i-test.true below ∙
+          ap (λ (k : ℕ). take k c.args.numbers.now ++ drop k c.args.res.now) (sym (add-one c.loop-i.i)),
+      length-set c.loop-i.res c.loop-i.i (get_or c.args.numbers.now c.loop-i.i 0) ∙ c.loop-i.invariant.2,
+    )
 
 pub returns : goal.returns
-returns c = let all : c.loop-i.i ≡ length c.args.numbers.now = omega arith in record {
-  put = c.loop-i.invariant.1 ∙ ap (λ (k : ℕ). take k c.args.numbers.now ++ drop k c.args.res.now) all ∙
-      ap (λ (x : List ℕ). x ++ drop (length c.args.numbers.now) c.args.res.now) (take-length c.args.numbers.now);
-}
+returns c =
+    let all : c.loop-i.i ≡ length c.args.numbers.now = omega arith in
+    record {
+      put =
+          c.loop-i.invariant.1 ∙ ap (λ (k : ℕ). take k c.args.numbers.now ++ drop k c.args.res.now) all ∙
+          ap (λ (x : List ℕ). x ++ drop (length c.args.numbers.now) c.args.res.now)
+          (take-length c.args.numbers.now);
+    }

@@ -1,18 +1,15 @@
 -- `put` meets its contract. The loop's invariant: the first i numbers stand at the buffer's start, and behind them what stood there.
 -- Assumes nothing.
-use mathlib.Core.Path.{◌≡◌, refl, sym, ap, ◌∙◌}
-use mathlib.Core.List.{List, [], ◌∷◌, ◌++◌}
-use Prim.Native.Nat.{ℕ, zero, suc, ◌-◌, ◌+◌, ◌≤◌, ◌<◌}
-use native.Mathlib.Nat.{le_of_suc-le-suc, not-suc-le-zero}
-use native.Mathlib.Numerals.{add-one}
-use native.Mathlib.Omega.{arith}
-use lib.ListN.{length, take, drop, get_or, set, length-set}
-use lib.Seq.{take-length}
-use Rattle.std.proofs.Common.{rules}
+use mathlib.Core.Path.{◌≡◌}
+use mathlib.Core.List.{◌++◌}
+use Prim.Native.Nat.{◌-◌, ◌≤◌}
+use lib.ListN.{length, take, drop}
 use Rattle.driver.proofs.put.Given as goal
 
 abbrev pub invariant-loop-i : goal.invariant-loop-i
-invariant-loop-i l = (l.i ≤ length l.numbers) × (l.res ≡ take l.i l.numbers ++ drop l.i l.initial.res) × (length l.res ≡ length l.initial.res)
+invariant-loop-i l =
+    (l.i ≤ length l.numbers) × (l.res ≡ take l.i l.numbers ++ drop l.i l.initial.res) ×
+    (length l.res ≡ length l.initial.res)
 
 abbrev pub decreases-loop-i : goal.decreases-loop-i
 decreases-loop-i l = length l.numbers - l.i

@@ -1,7 +1,6 @@
 -- `reply_first` meets its contract. Assumes nothing.
 use mathlib.Core.Path.{sym, ap}
 use Rattle.driver.specs.Driver.{reply_first}
-use Rattle.std.proofs.Common.{rules}
 use Rattle.driver.proofs.reply_first.Goals as goal
 
 pub returns-in-Refused : goal.returns-in-Refused

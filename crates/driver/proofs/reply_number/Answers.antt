@@ -3,7 +3,6 @@ use mathlib.Core.Path.{sym, ap}
 use Rattle.skeleton.specs.declared.request.Reply.{Reply}
 use Rattle.skeleton.specs.Answers.{shown_reply}
 use Rattle.driver.proofs.Replies.{reply_unrefused}
-use Rattle.std.proofs.Common.{rules}
 use Rattle.driver.proofs.reply_number.Goals as goal
 
 pub returns-in-Refused : goal.returns-in-Refused

@@ -1,7 +1,6 @@
 -- `tell` meets its contract. Assumes nothing.
 use mathlib.Core.Path.{sym, ◌∙◌}
 use Rattle.driver.proofs.Replies.{returned_short, written_short, returned_whole, written_whole}
-use Rattle.std.proofs.Common.{rules}
 use Rattle.driver.proofs.tell.Goals as goal
 
 pub returns-then-res-numbers-clause-returned : goal.returns-then-res-numbers-clause-returned

@@ -1,7 +1,6 @@
 -- `pairs::next_pair` meets its contract. Assumes nothing.
 use mathlib.Core.Path.{sym}
 use Rattle.pairs.proofs.Laws.{next_along, next_turn}
-use Rattle.std.proofs.Common.{rules}
 use Rattle.pairs.proofs.next_pair.Goals as goal
 
 pub returns-then-a-b : goal.returns-then-a-b

@@ -1,7 +1,6 @@
 -- `pairs::pair_of` meets its contract. Assumes nothing.
 use mathlib.Core.Path.{◌∙◌, sym}
 use Rattle.pairs.proofs.Laws.{pair_of_up, pair_of_down}
-use Rattle.std.proofs.Common.{rules}
 use Rattle.pairs.proofs.pair_of.Goals as goal
 
 pub returns-then-p-q : goal.returns-then-p-q

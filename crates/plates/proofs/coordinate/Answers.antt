@@ -8,7 +8,6 @@ use mir.Syntax.{w32}
 use mir.Val.{SFits, to_z}
 use mir.ValLaws.{to_z_pos}
 use Rattle.plane.proofs.Laws.Bounds.{near_fits, sub_in}
-use Rattle.std.proofs.Common.{rules}
 use Rattle.plates.proofs.coordinate.Goals as goal
 
 fits : (x : ℕ) → x ≤ 20 → SFits w32 (to_z w32 x -ℤ pos 10)

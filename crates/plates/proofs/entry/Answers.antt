@@ -1,7 +1,6 @@
 -- The source's table is the one of specs/Plates.antt. Assumes nothing.
 use mathlib.Core.Path.{refl}
 use Rattle.plates.specs.Plates.{table}
-use Rattle.std.proofs.Common.{rules}
 use Rattle.plates.proofs.entry.Goals as goal
 
 pub returns : goal.returns

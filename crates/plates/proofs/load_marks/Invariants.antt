@@ -2,7 +2,6 @@
 use mathlib.Core.Path.{◌≡◌}
 use Prim.Native.Nat.{◌-◌, ◌≤◌}
 use lib.ListN.{length}
-use Rattle.std.proofs.Common.{rules}
 use Rattle.plates.proofs.load_marks.Given as goal
 
 abbrev pub invariant-loop-i : goal.invariant-loop-i

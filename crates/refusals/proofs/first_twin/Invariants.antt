@@ -1,13 +1,9 @@
 -- `refusals::first_twin` meets its contract. The invariant: the marks passed equal no earlier one. Assumes nothing.
-use mathlib.Core.Path.{◌≡◌, sym, ◌∙◌}
+use mathlib.Core.Path.{◌≡◌}
 use mathlib.Core.Bool.{false}
 use Prim.Native.Nat.{ℕ, ◌-◌, ◌≤◌, ◌<◌}
-use native.Mathlib.Omega.{arith}
-use borrow.Author.Count.{below_none, below_more}
 use Rattle.plane.specs.Marks.{count}
-use Rattle.refusals.specs.Check.{has_twin, first_twin}
-use Rattle.plane.proofs.Laws.Numbers.{first_here, first_none}
-use Rattle.std.proofs.Common.{rules}
+use Rattle.refusals.specs.Check.{has_twin}
 use Rattle.refusals.proofs.first_twin.Given as goal
 
 abbrev pub invariant-loop-j : goal.invariant-loop-j

@@ -9,7 +9,6 @@ use lib.IntN.{ℤ, pos, negsuc}
 use lib.Signed.{le_z, lt_z}
 use Rattle.refusals.specs.Check.{in_range}
 use Rattle.plane.proofs.Laws.Bounds.{back}
-use Rattle.std.proofs.Common.{rules}
 use Rattle.refusals.proofs.is_in_range.Goals as goal
 
 below : (z : ℤ) → lt_z z (negsuc 9999) ≡ true → false ≡ in_range z
@@ -26,4 +25,8 @@ pub returns-then-z-ltminus10000 : goal.returns-then-z-ltminus10000
 returns-then-z-ltminus10000 c = record { ranged = below _ (ap (λ (x : ℤ). lt_z x (negsuc 9999)) (sym (back c.ranges.z)) ∙ c.if-z-ltminus10000.true) }
 
 pub returns : goal.returns
-returns c = record { ranged = ap (λ (x : ℤ). le_z x (pos 10000)) (back c.ranges.z) ∙ from _ (ap (λ (x : ℤ). lt_z x (negsuc 9999)) (sym (back c.ranges.z)) ∙ c.if-z-ltminus10000.false) }
+returns c = record {
+  ranged =
+      ap (λ (x : ℤ). le_z x (pos 10000)) (back c.ranges.z) ∙
+      from _ (ap (λ (x : ℤ). lt_z x (negsuc 9999)) (sym (back c.ranges.z)) ∙ c.if-z-ltminus10000.false);
+}

@@ -1,9 +1,7 @@
 -- `rounds::blank` meets its contract. The invariant: the bytes below k are 255. Assumes nothing.
 use mathlib.Core.Path.{refl}
-use Prim.Native.Nat.{◌-◌, ◌≤◌}
 use native.Mathlib.Omega.{arith}
-use lib.ListN.{length}
-use Rattle.rounds.proofs.Filling.{Filling, filling_none, filling_next, filling_one}
+use Rattle.rounds.proofs.Filling.{filling_none, filling_next, filling_one}
 use Rattle.std.proofs.Common.{rules}
 use Rattle.rounds.proofs.blank.Goals as goal
 
@@ -11,13 +9,21 @@ pub loop-k-init : goal.loop-k-init
 loop-k-init c = (search rules, filling_none _ _)
 
 pub bounds-st-k : goal.bounds-st-k
-bounds-st-k c = let s = c.loop-k.invariant.1.size in omega arith
+bounds-st-k c =
+    let s = c.loop-k.invariant.1.size in
+    omega arith
 
 pub loop-k-smaller : goal.loop-k-smaller
-loop-k-smaller c = let s = c.loop-k.invariant.1.size in omega arith
+loop-k-smaller c =
+    let s = c.loop-k.invariant.1.size in
+    omega arith
 
 pub loop-k-preserved : goal.loop-k-preserved
-loop-k-preserved c = let s = c.loop-k.invariant.1.size in (omega arith, filling_next c.loop-k.invariant.1 255 (omega arith) refl)
+loop-k-preserved c =
+    let s = c.loop-k.invariant.1.size in
+    (omega arith, filling_next c.loop-k.invariant.1 255 (omega arith) refl)
 
 pub returns : goal.returns
-returns c = let s = c.loop-k.invariant.1.size in record { blank = filling_one c.loop-k.invariant.1 (omega arith) }
+returns c =
+    let s = c.loop-k.invariant.1.size in
+    record { blank = filling_one c.loop-k.invariant.1 (omega arith) }

@@ -1,7 +1,6 @@
 -- `rounds::edge_byte` meets its contract. Assumes nothing.
 use mathlib.Core.Path.{sym, ap}
 use Rattle.rounds.specs.Run.{edge_byte}
-use Rattle.std.proofs.Common.{rules}
 use Rattle.rounds.proofs.edge_byte.Goals as goal
 
 pub returns-in-Blocked : goal.returns-in-Blocked

@@ -7,7 +7,6 @@ use Rattle.certificates.specs.Plate.{plate}
 use Rattle.rounds.specs.Run.{as_state, state_by, as_final, outcome_by}
 use Rattle.rounds.proofs.Turns.{examine_keeps, examine_strikes, examine_stuck}
 use Rattle.rounds.proofs.Readiness.{ready_struck, ready_place}
-use Rattle.std.proofs.Common.{rules}
 use Rattle.rounds.proofs.examine.Goals as goal
 
 pub first_certificate-c-requires-clause-plate : goal.first_certificate-c-requires-clause-plate
@@ -30,7 +29,9 @@ first_certificate-c-requires-clause-q_value c = c.requires.b_value
 
 pub returns-in_default-clause-examined : goal.returns-in_default-clause-examined
 unfolding as_state state_by
-returns-in_default-clause-examined c = examine_keeps c.args.m.now c.args.struck c.args.exams c.args.st.now c.args.a c.args.b c.requires.a_lt_b c.requires.i_value c.first_certificate-c.ensures.first c.in_default.is
+returns-in_default-clause-examined c =
+    examine_keeps c.args.m.now c.args.struck c.args.exams c.args.st.now c.args.a c.args.b c.requires.a_lt_b
+    c.requires.i_value c.first_certificate-c.ensures.first c.in_default.is
 
 pub returns-in_default-clause-ready : goal.returns-in_default-clause-ready
 unfolding as_state state_by
@@ -56,7 +57,11 @@ is_crossed-requires-clause-mark c = c.requires.mark
 
 pub returns-then-not-is_crossed-clause-examined : goal.returns-then-not-is_crossed-clause-examined
 unfolding as_state state_by as_final outcome_by
-returns-then-not-is_crossed-clause-examined c = let e = c.requires.i_value in examine_stuck c.args.m.now c.args.struck c.args.exams c.args.st.now c.args.a c.args.b c.requires.a_lt_b e c.first_certificate-c.ensures.first c.in-Nothing.is (ap (crossed (plate c.args.m.now) (remaining c.args.st.now)) e ∙ sym c.is_crossed.ensures.crossed ∙ not-true _ c.if-not-is_crossed.true-raw)
+returns-then-not-is_crossed-clause-examined c =
+    let e = c.requires.i_value in
+    examine_stuck c.args.m.now c.args.struck c.args.exams c.args.st.now c.args.a c.args.b c.requires.a_lt_b e
+    c.first_certificate-c.ensures.first c.in-Nothing.is
+    (ap (crossed (plate c.args.m.now) (remaining c.args.st.now)) e ∙ sym c.is_crossed.ensures.crossed ∙ not-true _ c.if-not-is_crossed.true-raw)
 
 pub returns-then-not-is_crossed-clause-ready : goal.returns-then-not-is_crossed-clause-ready
 unfolding as_state state_by as_final outcome_by
@@ -79,8 +84,13 @@ bounds-st-i c = ready_place c.requires.ready_2 c.requires.a_lt_b c.requires.mark
 
 pub returns-clause-examined : goal.returns-clause-examined
 unfolding as_state state_by
-returns-clause-examined c = let e = c.requires.i_value in examine_strikes c.args.m.now c.args.struck c.args.exams c.args.st.now c.args.a c.args.b c.requires.a_lt_b e c.first_certificate-c.ensures.first c.in-Nothing.is (ap (crossed (plate c.args.m.now) (remaining c.args.st.now)) e ∙ sym c.is_crossed.ensures.crossed ∙ not-false _ c.if-not-is_crossed.false-raw)
+returns-clause-examined c =
+    let e = c.requires.i_value in
+    examine_strikes c.args.m.now c.args.struck c.args.exams c.args.st.now c.args.a c.args.b c.requires.a_lt_b e
+    c.first_certificate-c.ensures.first c.in-Nothing.is
+    (ap (crossed (plate c.args.m.now) (remaining c.args.st.now)) e ∙ sym c.is_crossed.ensures.crossed ∙ not-false _ c.if-not-is_crossed.false-raw)
 
 pub returns-clause-ready : goal.returns-clause-ready
 unfolding as_state state_by
-returns-clause-ready c = ready_struck c.args.a c.args.b c.args.i c.requires.i_value c.requires.ready_2 c.part.ensures.parted
+returns-clause-ready c =
+    ready_struck c.args.a c.args.b c.args.i c.requires.i_value c.requires.ready_2 c.part.ensures.parted

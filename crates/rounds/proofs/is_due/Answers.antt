@@ -7,7 +7,6 @@ use Rattle.striking.proofs.Remaining.{remaining_not, remaining_yes}
 use Rattle.certificates.proofs.Pairs.{inner_at}
 use Rattle.plane.proofs.Laws.Tells.{cond_yes, cond_no}
 use Rattle.certificates.specs.Plate.{plate}
-use Rattle.std.proofs.Common.{rules}
 use Rattle.rounds.proofs.is_due.Goals as goal
 
 pub returns-then-st-i-eq0 : goal.returns-then-st-i-eq0
@@ -18,7 +17,10 @@ pub is_inner-requires-clause-table : goal.is_inner-requires-clause-table
 is_inner-requires-clause-table c = c.requires.table
 
 pub is_inner-requires-clause-mark : goal.is_inner-requires-clause-mark
-is_inner-requires-clause-mark c = let h = c.requires in let k = c.requires.mark in omega arith
+is_inner-requires-clause-mark c =
+    let h = c.requires in
+    let k = c.requires.mark in
+    omega arith
 
 pub is_inner-requires-clause-mark_2 : goal.is_inner-requires-clause-mark_2
 is_inner-requires-clause-mark_2 c = c.requires.mark
@@ -27,8 +29,16 @@ pub is_inner-requires-clause-m_bound : goal.is_inner-requires-clause-m_bound
 is_inner-requires-clause-m_bound c = c.requires.plate.few
 
 pub is_inner-requires-clause-b_value : goal.is_inner-requires-clause-b_value
-is_inner-requires-clause-b_value c = c.requires.clean.edges _ _ c.requires.a_lt_b c.requires.mark (ap (remaining _) (sym c.requires.i_value) ∙ remaining_yes _ _ c.if-st-i-eq0.false)
+is_inner-requires-clause-b_value c =
+    c.requires.clean.edges _ _ c.requires.a_lt_b c.requires.mark
+    (ap (remaining _) (sym c.requires.i_value) ∙ remaining_yes _ _ c.if-st-i-eq0.false)
 
 pub returns : goal.returns
 unfolding due
-returns c = record { due = c.is_inner.ensures.inner ∙ sym (ap (plate c.args.m.now).inner c.requires.i_value ∙ inner_at _ _ _ (record { up = c.requires.a_lt_b; marks = c.requires.mark })) ∙ sym (cond_yes _ _ (remaining_yes _ _ c.if-st-i-eq0.false)) }
+returns c = record {
+  due =
+      c.is_inner.ensures.inner ∙
+      sym
+      (ap (plate c.args.m.now).inner c.requires.i_value ∙ inner_at _ _ _ (record { up = c.requires.a_lt_b; marks = c.requires.mark })) ∙
+      sym (cond_yes _ _ (remaining_yes _ _ c.if-st-i-eq0.false));
+}

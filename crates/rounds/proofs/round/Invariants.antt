@@ -1,20 +1,18 @@
 -- `rounds::round` meets its contract. The invariant: the pairs below i have had their turns, and the buffers are ready. Assumes nothing.
-use mathlib.Core.Path.{◌≡◌, sym, ap, ◌∙◌}
+use mathlib.Core.Path.{◌≡◌}
 use mathlib.Core.Bool.{false}
-use Prim.Native.Nat.{ℕ, ◌-◌, ◌≤◌}
-use native.Mathlib.Omega.{arith}
+use Prim.Native.Nat.{◌-◌, ◌≤◌}
 use lib.ListN.{length}
 use Rattle.pairs.specs.Pairs.{pair_at}
-use Rattle.striking.specs.Search.{going, visit, visits}
+use Rattle.striking.specs.Search.{going, visits}
 use Rattle.certificates.specs.Plate.{plate}
-use Rattle.rounds.specs.Run.{as_state, state_by, Ready}
-use Rattle.rounds.proofs.Turns.{visits_none, visits_more}
-use Rattle.certificates.proofs.Places.{place, pair_at_first, pair_at_next}
-use Rattle.std.proofs.Common.{rules}
+use Rattle.rounds.specs.Run.{as_state, Ready}
 use Rattle.rounds.proofs.round.Given as goal
 
 abbrev pub invariant-loop-i : goal.invariant-loop-i
-invariant-loop-i l = (l.i ≤ length l.initial.st) × (l.p ≡ pair_at l.i) × Ready l.m l.st l.t l.d × (as_state l.run l.st ≡ visits (plate l.m) l.budget l.i (going false l.exams l.initial.st))
+invariant-loop-i l =
+    (l.i ≤ length l.initial.st) × (l.p ≡ pair_at l.i) × Ready l.m l.st l.t l.d ×
+    (as_state l.run l.st ≡ visits (plate l.m) l.budget l.i (going false l.exams l.initial.st))
 
 abbrev pub decreases-loop-i : goal.decreases-loop-i
 decreases-loop-i l = length l.initial.st - l.i

@@ -1,17 +1,15 @@
 -- `rounds::rounds` meets its contract. The invariant: the rounds that are left end as the whole search does, with fuel to spare. Assumes nothing.
-use mathlib.Core.Path.{◌≡◌, refl, sym, ◌∙◌}
-use Prim.Native.Nat.{ℕ, suc, ◌-◌, ◌≤◌, ◌<◌}
-use native.Mathlib.Omega.{arith}
-use borrow.Author.Tests.{not-true, not-false}
+use mathlib.Core.Path.{◌≡◌}
+use Prim.Native.Nat.{ℕ, suc, ◌-◌, ◌≤◌}
 use Rattle.striking.specs.Search.{rounds, search_from}
 use Rattle.certificates.specs.Plate.{plate}
-use Rattle.rounds.specs.Run.{as_final, outcome_by, Ready}
-use Rattle.rounds.proofs.Turns.{rounds_over, rounds_done, rounds_again, round_cost}
-use Rattle.std.proofs.Common.{rules}
+use Rattle.rounds.specs.Run.{Ready}
 use Rattle.rounds.proofs.rounds.Given as goal
 
 abbrev pub invariant-loop-run : goal.invariant-loop-run
-invariant-loop-run l = (l.exams ≤ l.budget) × Ready l.m l.st l.t l.d × (f : ℕ) × (l.budget - l.exams ≤ f) × (rounds (plate l.m) l.budget (suc f) l.exams l.st ≡ search_from (plate l.m) l.budget 0 l.initial.st)
+invariant-loop-run l =
+    (l.exams ≤ l.budget) × Ready l.m l.st l.t l.d × (f : ℕ) × (l.budget - l.exams ≤ f) ×
+    (rounds (plate l.m) l.budget (suc f) l.exams l.st ≡ search_from (plate l.m) l.budget 0 l.initial.st)
 
 abbrev pub decreases-loop-run : goal.decreases-loop-run
 decreases-loop-run l = l.budget - l.exams

@@ -6,7 +6,6 @@ use Rattle.striking.proofs.Remaining.{remaining_not, remaining_yes}
 use Rattle.rounds.proofs.Readiness.{ready_place}
 use Rattle.plane.proofs.Laws.Tells.{cond_yes, cond_no}
 use Rattle.certificates.specs.Plate.{plate}
-use Rattle.std.proofs.Common.{rules}
 use Rattle.rounds.proofs.status_byte.Goals as goal
 
 pub bounds-st-i : goal.bounds-st-i
@@ -36,8 +35,16 @@ is_crossed-requires-clause-mark c = c.requires.mark
 
 pub returns-then-is_crossed : goal.returns-then-is_crossed
 unfolding status_byte
-returns-then-is_crossed c = record { status = sym (cond_yes _ _ (remaining_yes _ _ c.if-st-i-eq0.false) ∙ cond_yes _ _ (ap (crossed (plate c.args.m.now) (remaining c.args.st.now)) c.requires.i_value ∙ sym c.is_crossed.ensures.crossed ∙ c.if-is_crossed.true)) }
+returns-then-is_crossed c = record {
+  status =
+      sym (cond_yes _ _ (remaining_yes _ _ c.if-st-i-eq0.false) ∙ cond_yes _ _
+      (ap (crossed (plate c.args.m.now) (remaining c.args.st.now)) c.requires.i_value ∙ sym c.is_crossed.ensures.crossed ∙ c.if-is_crossed.true));
+}
 
 pub returns : goal.returns
 unfolding status_byte
-returns c = record { status = sym (cond_yes _ _ (remaining_yes _ _ c.if-st-i-eq0.false) ∙ cond_no _ _ (ap (crossed (plate c.args.m.now) (remaining c.args.st.now)) c.requires.i_value ∙ sym c.is_crossed.ensures.crossed ∙ c.if-is_crossed.false)) }
+returns c = record {
+  status =
+      sym (cond_yes _ _ (remaining_yes _ _ c.if-st-i-eq0.false) ∙ cond_no _ _
+      (ap (crossed (plate c.args.m.now) (remaining c.args.st.now)) c.requires.i_value ∙ sym c.is_crossed.ensures.crossed ∙ c.if-is_crossed.false));
+}

@@ -6,11 +6,11 @@ use Rattle.certificates.specs.Plate.{plate}
 use Rattle.rounds.specs.Run.{as_state, state_by, as_final, outcome_by}
 use Rattle.rounds.proofs.Turns.{turn_over, turn_passes, turn_examines, turn_pauses}
 use Rattle.rounds.proofs.Readiness.{ready_place, due_edge}
-use Rattle.std.proofs.Common.{rules}
 use Rattle.rounds.proofs.visit.Goals as goal
 
 pub returns-in_default-clause-visited : goal.returns-in_default-clause-visited
-returns-in_default-clause-visited c = turn_over (plate c.args.m.now) c.args.budget c.args.i c.args.run c.args.st.now c.in_default.not-Going
+returns-in_default-clause-visited c =
+    turn_over (plate c.args.m.now) c.args.budget c.args.i c.args.run c.args.st.now c.in_default.not-Going
 
 pub returns-in_default-clause-ready : goal.returns-in_default-clause-ready
 returns-in_default-clause-ready c = c.requires.ready_2
@@ -34,10 +34,13 @@ pub is_due-requires-clause-i_value : goal.is_due-requires-clause-i_value
 is_due-requires-clause-i_value c = c.requires.i_value
 
 pub is_due-requires-clause-i_in_bounds : goal.is_due-requires-clause-i_in_bounds
-is_due-requires-clause-i_in_bounds c = ready_place c.requires.ready_2 c.requires.a_lt_b c.requires.mark c.requires.i_value
+is_due-requires-clause-i_in_bounds c =
+    ready_place c.requires.ready_2 c.requires.a_lt_b c.requires.mark c.requires.i_value
 
 pub returns-then-not-is_due-clause-visited : goal.returns-then-not-is_due-clause-visited
-returns-then-not-is_due-clause-visited c = turn_passes (plate c.args.m.now) c.args.budget c.args.i c.args.run c.args.st.now c.in-Going.is (sym c.is_due.ensures.due ∙ not-true _ c.if-not-is_due.true-raw)
+returns-then-not-is_due-clause-visited c =
+    turn_passes (plate c.args.m.now) c.args.budget c.args.i c.args.run c.args.st.now c.in-Going.is
+    (sym c.is_due.ensures.due ∙ not-true _ c.if-not-is_due.true-raw)
 
 pub returns-then-not-is_due-clause-ready : goal.returns-then-not-is_due-clause-ready
 returns-then-not-is_due-clause-ready c = c.requires.ready_2
@@ -55,20 +58,34 @@ pub examine-requires-clause-i_value : goal.examine-requires-clause-i_value
 examine-requires-clause-i_value c = c.requires.i_value
 
 pub examine-requires-clause-b_value : goal.examine-requires-clause-b_value
-examine-requires-clause-b_value c = due_edge c.requires.ready_2 c.requires.a_lt_b c.requires.mark c.requires.i_value (sym c.is_due.ensures.due ∙ not-false _ c.if-not-is_due.false-raw)
+examine-requires-clause-b_value c =
+    due_edge c.requires.ready_2 c.requires.a_lt_b c.requires.mark c.requires.i_value
+    (sym c.is_due.ensures.due ∙ not-false _ c.if-not-is_due.false-raw)
 
 pub examine-requires-clause-exams_bound : goal.examine-requires-clause-exams_bound
-examine-requires-clause-exams_bound c = let a = c.args in let h = c.requires in let r = c.requires.ready_2 in let u = c.requires.a_lt_b in let k = c.requires.mark in let e = c.requires.i_value in omega arith
+examine-requires-clause-exams_bound c =
+    let a = c.args in
+    let h = c.requires in
+    let r = c.requires.ready_2 in
+    let u = c.requires.a_lt_b in
+    let k = c.requires.mark in
+    let e = c.requires.i_value in
+    omega arith
 
 pub returns-then-exams-budget-clause-visited : goal.returns-then-exams-budget-clause-visited
-returns-then-exams-budget-clause-visited c = c.examine.ensures.examined ∙ turn_examines (plate c.args.m.now) c.args.budget c.args.i c.args.run c.args.st.now c.in-Going.is (sym c.is_due.ensures.due ∙ not-false _ c.if-not-is_due.false-raw) c.if-exams-budget.true
+returns-then-exams-budget-clause-visited c =
+    c.examine.ensures.examined ∙
+    turn_examines (plate c.args.m.now) c.args.budget c.args.i c.args.run c.args.st.now c.in-Going.is
+    (sym c.is_due.ensures.due ∙ not-false _ c.if-not-is_due.false-raw) c.if-exams-budget.true
 
 pub returns-then-exams-budget-clause-ready : goal.returns-then-exams-budget-clause-ready
 returns-then-exams-budget-clause-ready c = c.examine.ensures.ready
 
 pub returns-clause-visited : goal.returns-clause-visited
 unfolding as_state state_by as_final outcome_by
-returns-clause-visited c = turn_pauses (plate c.args.m.now) c.args.budget c.args.i c.args.run c.args.st.now c.in-Going.is (sym c.is_due.ensures.due ∙ not-false _ c.if-not-is_due.false-raw) c.if-exams-budget.false
+returns-clause-visited c =
+    turn_pauses (plate c.args.m.now) c.args.budget c.args.i c.args.run c.args.st.now c.in-Going.is
+    (sym c.is_due.ensures.due ∙ not-false _ c.if-not-is_due.false-raw) c.if-exams-budget.false
 
 pub returns-clause-ready : goal.returns-clause-ready
 unfolding as_state state_by as_final outcome_by

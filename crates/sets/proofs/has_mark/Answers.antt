@@ -5,12 +5,15 @@ use native.Mathlib.Omega.{arith}
 use lib.Dec.{eqb}
 use Rattle.sets.specs.Sets.{in_word}
 use Rattle.sets.proofs.Laws.Sets.{has_low, has_high}
-use Rattle.std.proofs.Common.{rules}
 use Rattle.sets.proofs.has_mark.Goals as goal
 
 pub returns-then-i-lt64 : goal.returns-then-i-lt64
 unfolding in_word
-returns-then-i-lt64 c = let a = c.args in let e : a.i - 0 ≡ a.i = omega arith in record { member = sym (has_low a.s a.i c.if-i-lt64.true ∙ ap (λ (x : ℕ). eqb (a.s.low / 2 ^ x % 2) 1) e) }
+returns-then-i-lt64 c =
+    let e : c.args.i - 0 ≡ c.args.i = omega arith in
+    record {
+      member = sym (has_low c.args.s c.args.i c.if-i-lt64.true ∙ ap (λ (x : ℕ). eqb (c.args.s.low / 2 ^ x % 2) 1) e);
+    }
 
 pub returns : goal.returns
 unfolding in_word

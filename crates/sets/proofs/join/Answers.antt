@@ -4,4 +4,8 @@ use Rattle.std.proofs.Common.{rules}
 use Rattle.sets.proofs.join.Goals as goal
 
 pub returns : goal.returns
-returns c = record { either = either-set _ _ (record { low_fits = search rules; high_fits = search rules }) (record { low_fits = search rules; high_fits = search rules }) }
+returns c = record {
+  either =
+      either-set _ _ (record { low_fits = search rules; high_fits = search rules })
+      (record { low_fits = search rules; high_fits = search rules });
+}

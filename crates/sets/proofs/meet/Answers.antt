@@ -4,4 +4,8 @@ use Rattle.std.proofs.Common.{rules}
 use Rattle.sets.proofs.meet.Goals as goal
 
 pub returns : goal.returns
-returns c = record { both = both-set _ _ (record { low_fits = search rules; high_fits = search rules }) (record { low_fits = search rules; high_fits = search rules }) }
+returns c = record {
+  both =
+      both-set _ _ (record { low_fits = search rules; high_fits = search rules })
+      (record { low_fits = search rules; high_fits = search rules });
+}

@@ -7,4 +7,6 @@ pub returns-then-k-lt64 : goal.returns-then-k-lt64
 returns-then-k-lt64 c = record { removed = remove_low _ _ (record { low_fits = search rules; high_fits = search rules }) c.if-k-lt64.true }
 
 pub returns : goal.returns
-returns c = record { removed = remove_high _ _ (record { low_fits = search rules; high_fits = search rules }) c.if-k-lt64.false c.requires }
+returns c = record {
+  removed = remove_high _ _ (record { low_fits = search rules; high_fits = search rules }) c.if-k-lt64.false c.requires;
+}

@@ -9,7 +9,6 @@ use Rattle.plane.proofs.Laws.Bounds.{back, mark_in_range}
 use Rattle.plane.proofs.Laws.Side.{side_on}
 use Rattle.plane.proofs.Laws.Edge.{clear_at_a, clear_at_b, clear_off, clear_third}
 use Rattle.sides.proofs.Laws.{clear_past}
-use Rattle.std.proofs.Common.{rules}
 use Rattle.sides.proofs.is_still_clear.Goals as goal
 
 -- a mark that the edge is clear of changes nothing; one that it is not clear of decides
@@ -22,19 +21,37 @@ stops true c e = sym e
 stops false c e = refl
 
 pub returns-then-not-is_on : goal.returns-then-not-is_on
-returns-then-not-is_on c = let s = c in record { clear = stays _ _ (clear_off _ _ _ _ (sym (side_on _ _ _) ∙ ap is_on (sym s.requires.s_value ∙ sym (back s.ranges.s)) ∙ sym c.is_on.ensures.on ∙ not-true _ c.if-not-is_on.true-raw)) }
+returns-then-not-is_on c =
+    let s = c in
+    record {
+      clear =
+          stays _ _ (clear_off _ _ _ _ (sym (side_on _ _ _) ∙ ap is_on
+          (sym s.requires.s_value ∙ sym (back s.ranges.s)) ∙ sym c.is_on.ensures.on ∙ not-true _
+          c.if-not-is_on.true-raw));
+    }
 
 pub is_between-requires-clause-in_range : goal.is_between-requires-clause-in_range
-is_between-requires-clause-in_range c = let h = c.requires.plate in subst InRange (sym c.mark.ensures.placed) (mark_in_range h _)
+is_between-requires-clause-in_range c =
+    let h = c.requires.plate in
+    subst InRange (sym c.mark.ensures.placed) (mark_in_range h _)
 
 pub is_between-requires-clause-in_range_2 : goal.is_between-requires-clause-in_range_2
-is_between-requires-clause-in_range_2 c = let h = c.requires.plate in subst InRange (sym c.mark-2.ensures.placed) (mark_in_range h _)
+is_between-requires-clause-in_range_2 c =
+    let h = c.requires.plate in
+    subst InRange (sym c.mark-2.ensures.placed) (mark_in_range h _)
 
 pub is_between-requires-clause-in_range_3 : goal.is_between-requires-clause-in_range_3
-is_between-requires-clause-in_range_3 c = let h = c.requires.plate in subst InRange (sym c.mark-3.ensures.placed) (mark_in_range h _)
+is_between-requires-clause-in_range_3 c =
+    let h = c.requires.plate in
+    subst InRange (sym c.mark-3.ensures.placed) (mark_in_range h _)
 
 pub returns-then-not-is_between : goal.returns-then-not-is_between
-returns-then-not-is_between c = record { clear = stays _ _ (clear_past _ _ _ _ (sym (λ i. between (c.mark.ensures.placed i) (c.mark-2.ensures.placed i) (c.mark-3.ensures.placed i)) ∙ sym c.is_between.ensures.between ∙ not-true _ c.if-not-is_between.true-raw)) }
+returns-then-not-is_between c = record {
+  clear =
+      stays _ _ (clear_past _ _ _ _ (sym
+      (λ i. between (c.mark.ensures.placed i) (c.mark-2.ensures.placed i) (c.mark-3.ensures.placed i)) ∙ sym
+      c.is_between.ensures.between ∙ not-true _ c.if-not-is_between.true-raw));
+}
 
 pub returns-then-k-a : goal.returns-then-k-a
 returns-then-k-a c = record { clear = stays _ _ (clear_at_a _ _ _ _ c.if-k-a.true) }
@@ -43,8 +60,13 @@ pub returns-then-k-b : goal.returns-then-k-b
 returns-then-k-b c = record { clear = stays _ _ (clear_at_b _ _ _ _ c.if-k-b.true) }
 
 pub returns : goal.returns
-returns c = let s = c in record {
-  clear = stops s.args.sofar _
-      (clear_third _ _ _ _ c.if-k-a.false c.if-k-b.false (sym (side_on _ _ _) ∙ ap is_on (sym s.requires.s_value ∙ sym (back s.ranges.s)) ∙ sym c.is_on.ensures.on ∙ not-false _ c.if-not-is_on.false-raw)
-      ∙ ap not (sym (λ i. between (c.mark.ensures.placed i) (c.mark-2.ensures.placed i) (c.mark-3.ensures.placed i)) ∙ sym c.is_between.ensures.between ∙ not-false _ c.if-not-is_between.false-raw));
-}
+returns c =
+    let s = c in
+    record {
+      clear =
+          stops s.args.sofar _ (clear_third _ _ _ _ c.if-k-a.false c.if-k-b.false (sym (side_on _ _ _) ∙ ap is_on
+          (sym s.requires.s_value ∙ sym (back s.ranges.s)) ∙ sym c.is_on.ensures.on ∙ not-false _
+          c.if-not-is_on.false-raw) ∙ ap not (sym
+          (λ i. between (c.mark.ensures.placed i) (c.mark-2.ensures.placed i) (c.mark-3.ensures.placed i)) ∙ sym
+          c.is_between.ensures.between ∙ not-false _ c.if-not-is_between.false-raw));
+    }

@@ -7,7 +7,6 @@ use Rattle.plane.proofs.Laws.Tells.{cond_yes, cond_no}
 use Rattle.sides.specs.declared.Sides.{Sides}
 use Rattle.sets.specs.Sets.{none}
 use Rattle.sides.specs.Sides.{kind_by}
-use Rattle.std.proofs.Common.{rules}
 use Rattle.sides.proofs.kind_by.Goals as goal
 
 module _ (x : Sides) where

@@ -2,7 +2,6 @@
 use mathlib.Core.Path.{ap}
 use native.Mathlib.Omega.{arith}
 use Rattle.sets.specs.Sets.{bit}
-use Rattle.std.proofs.Common.{rules}
 use Rattle.sides.proofs.push.Goals as goal
 
 pub returns-then-x : goal.returns-then-x

@@ -1,7 +1,6 @@
 -- `certificate::candidates` meets its contract. The rows of p and q and the left set of (a, b) are what they stand for, and where
 -- all three meet is the set of the candidates. Assumes nothing.
 use Rattle.certificates.proofs.Candidates.{candidate-set}
-use Rattle.std.proofs.Common.{rules}
 use Rattle.certificates.proofs.certificate.candidates.Goals as goal
 
 pub returns : goal.returns

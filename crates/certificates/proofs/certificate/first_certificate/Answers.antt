@@ -2,21 +2,16 @@
 -- of its set, the members are candidates, and every other mark picks nothing. So the first match is the first certificate, and where
 -- the left candidates are used up there is none. The measures: the next member comes later. Assumes nothing.
 use mathlib.Core.Path.{◌≡◌, refl, sym, ◌∙◌}
-use mathlib.Core.Logic.{⊎_elim}
-use mathlib.Core.Bool.{true, false}
-use Prim.Native.Nat.{◌-◌}
+use mathlib.Core.Bool.{true}
 use native.Mathlib.Omega.{arith}
-use Rattle.plane.specs.Numbers.{first_to}
-use Rattle.sets.specs.Sets.{has}
 use Rattle.striking.specs.Status.{remaining}
-use Rattle.certificates.specs.Certificate.{first_certificate, pick_fitting, pick_right}
+use Rattle.certificates.specs.Certificate.{first_certificate, pick_right}
 use Rattle.certificates.specs.Plate.{edges_of}
 use Rattle.certificates.specs.Rows.{candidate, right_candidate}
-use Rattle.certificates.proofs.Open.{Open, open_start, open_at, open_hit, open_end, open_next, open_less}
+use Rattle.certificates.proofs.Open.{open_start, open_at, open_hit, open_end, open_next, open_less}
 use Rattle.certificates.proofs.Stopped.{Stopped, nowhere, somewhere, stopped_nowhere, stopped_somewhere}
 use Rattle.certificates.proofs.Candidates.{candidate_mark, right_mark}
 use Rattle.certificates.proofs.Apexes.{Given, p_small, q_small, left_miss, right_miss, match_no, match_yes}
-use Rattle.std.proofs.Common.{rules}
 use Rattle.certificates.proofs.certificate.first_certificate.Goals as goal
 use Rattle.certificates.proofs.certificate.first_certificate.Goals.{else-search-test, then-search-test+then-loop-s-test+then-is_match, Left-search, In-loop-s, In-search, Start}
 
@@ -69,16 +64,24 @@ pub candidates-rights-requires-clause-rows : goal.candidates-rights-requires-cla
 candidates-rights-requires-clause-rows c = c.requires.rows
 
 pub candidates-rights-requires-clause-p_bound : goal.candidates-rights-requires-clause-p_bound
-candidates-rights-requires-clause-p_bound c = let g = given (goal.at.candidates-rights-requires-clause-p_bound c).Start in p_small g
+candidates-rights-requires-clause-p_bound c =
+    let g = given (goal.at.candidates-rights-requires-clause-p_bound c).Start in
+    p_small g
 
 pub candidates-rights-requires-clause-q_bound : goal.candidates-rights-requires-clause-q_bound
-candidates-rights-requires-clause-q_bound c = let g = given (goal.at.candidates-rights-requires-clause-q_bound c).Start in q_small g
+candidates-rights-requires-clause-q_bound c =
+    let g = given (goal.at.candidates-rights-requires-clause-q_bound c).Start in
+    q_small g
 
 pub candidates-rights-requires-clause-a_bound : goal.candidates-rights-requires-clause-a_bound
-candidates-rights-requires-clause-a_bound c = let g = given (goal.at.candidates-rights-requires-clause-a_bound c).Start in q_small g
+candidates-rights-requires-clause-a_bound c =
+    let g = given (goal.at.candidates-rights-requires-clause-a_bound c).Start in
+    q_small g
 
 pub candidates-rights-requires-clause-b_bound : goal.candidates-rights-requires-clause-b_bound
-candidates-rights-requires-clause-b_bound c = let g = given (goal.at.candidates-rights-requires-clause-b_bound c).Start in p_small g
+candidates-rights-requires-clause-b_bound c =
+    let g = given (goal.at.candidates-rights-requires-clause-b_bound c).Start in
+    p_small g
 
 pub candidates-lefts-requires-clause-table : goal.candidates-lefts-requires-clause-table
 candidates-lefts-requires-clause-table c = c.requires.table
@@ -87,73 +90,130 @@ pub candidates-lefts-requires-clause-rows : goal.candidates-lefts-requires-claus
 candidates-lefts-requires-clause-rows c = c.requires.rows
 
 pub candidates-lefts-requires-clause-p_bound : goal.candidates-lefts-requires-clause-p_bound
-candidates-lefts-requires-clause-p_bound c = let g = given (goal.at.candidates-lefts-requires-clause-p_bound c).Start in p_small g
+candidates-lefts-requires-clause-p_bound c =
+    let g = given (goal.at.candidates-lefts-requires-clause-p_bound c).Start in
+    p_small g
 
 pub candidates-lefts-requires-clause-q_bound : goal.candidates-lefts-requires-clause-q_bound
-candidates-lefts-requires-clause-q_bound c = let g = given (goal.at.candidates-lefts-requires-clause-q_bound c).Start in q_small g
+candidates-lefts-requires-clause-q_bound c =
+    let g = given (goal.at.candidates-lefts-requires-clause-q_bound c).Start in
+    q_small g
 
 pub candidates-lefts-requires-clause-a_bound : goal.candidates-lefts-requires-clause-a_bound
-candidates-lefts-requires-clause-a_bound c = let g = given (goal.at.candidates-lefts-requires-clause-a_bound c).Start in p_small g
+candidates-lefts-requires-clause-a_bound c =
+    let g = given (goal.at.candidates-lefts-requires-clause-a_bound c).Start in
+    p_small g
 
 pub candidates-lefts-requires-clause-b_bound : goal.candidates-lefts-requires-clause-b_bound
-candidates-lefts-requires-clause-b_bound c = let g = given (goal.at.candidates-lefts-requires-clause-b_bound c).Start in q_small g
+candidates-lefts-requires-clause-b_bound c =
+    let g = given (goal.at.candidates-lefts-requires-clause-b_bound c).Start in
+    q_small g
 
 pub search-init : goal.search-init
-search-init c = let g = given (goal.at.search-init c).Start in
-    (refl, c.first_of-r.ensures.first, open_start _ _ g.plate.few c.candidates-lefts.ensures.found (left_miss _ _ _ _ g))
+search-init c =
+    let g = given (goal.at.search-init c).Start in (
+      refl,
+      c.first_of-r.ensures.first,
+      open_start _ _ g.plate.few c.candidates-lefts.ensures.found (left_miss _ _ _ _ g),
+    )
 
 pub splits-across-requires-clause-table : goal.splits-across-requires-clause-table
 splits-across-requires-clause-table c = c.requires.table
 
 pub splits-across-requires-clause-p_bound : goal.splits-across-requires-clause-p_bound
-splits-across-requires-clause-p_bound c = let g = given (goal.at.splits-across-requires-clause-p_bound c).Start in p_small g
+splits-across-requires-clause-p_bound c =
+    let g = given (goal.at.splits-across-requires-clause-p_bound c).Start in
+    p_small g
 
 pub splits-across-requires-clause-q_bound : goal.splits-across-requires-clause-q_bound
-splits-across-requires-clause-q_bound c = let g = given (goal.at.splits-across-requires-clause-q_bound c).Start in q_small g
+splits-across-requires-clause-q_bound c =
+    let g = given (goal.at.splits-across-requires-clause-q_bound c).Start in
+    q_small g
 
 pub splits-across-requires-clause-r_bound : goal.splits-across-requires-clause-r_bound
-splits-across-requires-clause-r_bound c = let g = given (goal.at.splits-across-requires-clause-r_bound c).Start in c.search-test.true
+splits-across-requires-clause-r_bound c =
+    let g = given (goal.at.splits-across-requires-clause-r_bound c).Start in
+    c.search-test.true
 
 pub right_candidates-ss-requires-clause-table : goal.right_candidates-ss-requires-clause-table
 right_candidates-ss-requires-clause-table c = c.requires.table
 
 pub right_candidates-ss-requires-clause-p_bound : goal.right_candidates-ss-requires-clause-p_bound
-right_candidates-ss-requires-clause-p_bound c = let g = given (goal.at.right_candidates-ss-requires-clause-p_bound c).Start in p_small g
+right_candidates-ss-requires-clause-p_bound c =
+    let g = given (goal.at.right_candidates-ss-requires-clause-p_bound c).Start in
+    p_small g
 
 pub right_candidates-ss-requires-clause-q_bound : goal.right_candidates-ss-requires-clause-q_bound
-right_candidates-ss-requires-clause-q_bound c = let g = given (goal.at.right_candidates-ss-requires-clause-q_bound c).Start in q_small g
+right_candidates-ss-requires-clause-q_bound c =
+    let g = given (goal.at.right_candidates-ss-requires-clause-q_bound c).Start in
+    q_small g
 
 pub right_candidates-ss-requires-clause-r_bound : goal.right_candidates-ss-requires-clause-r_bound
-right_candidates-ss-requires-clause-r_bound c = let g = given (goal.at.right_candidates-ss-requires-clause-r_bound c).Start in c.search-test.true
+right_candidates-ss-requires-clause-r_bound c =
+    let g = given (goal.at.right_candidates-ss-requires-clause-r_bound c).Start in
+    c.search-test.true
 
 pub right_candidates-ss-requires-clause-rights_value : goal.right_candidates-ss-requires-clause-rights_value
 right_candidates-ss-requires-clause-rights_value c = c.candidates-rights.ensures.found
 
 pub loop-s-init : goal.loop-s-init
-loop-s-init c = let g = given (goal.at.loop-s-init c).Start in
-    let fresh = open_start _ _ g.plate.few c.right_candidates-ss.ensures.found (right_miss _ _ _ _ g _ (left_here (goal.at.loop-s-init c).In-search)) in
+loop-s-init c =
+    let g = given (goal.at.loop-s-init c).Start in
+    let fresh =
+    open_start _ _ g.plate.few c.right_candidates-ss.ensures.found
+    (right_miss _ _ _ _ g _ (left_here (goal.at.loop-s-init c).In-search)) in
     (c.search.invariant.0, c.first_of-s.ensures.first, fresh)
 
 pub is_match-requires-clause-plate : goal.is_match-requires-clause-plate
-is_match-requires-clause-plate c = let g = given (goal.at.is_match-requires-clause-plate c).Start in let r_mark = candidate_mark _ _ _ _ _ _ _ (left_here (goal.at.is_match-requires-clause-plate c).In-search) in let s_mark = right_mark _ _ _ _ _ _ (right-here (goal.at.is_match-requires-clause-plate c).In-loop-s) in let across = c.splits-across.ensures.split in g.plate
+is_match-requires-clause-plate c =
+    let g = given (goal.at.is_match-requires-clause-plate c).Start in
+    let r_mark = candidate_mark _ _ _ _ _ _ _ (left_here (goal.at.is_match-requires-clause-plate c).In-search) in
+    let s_mark = right_mark _ _ _ _ _ _ (right-here (goal.at.is_match-requires-clause-plate c).In-loop-s) in
+    let across = c.splits-across.ensures.split in
+    g.plate
 
 pub is_match-requires-clause-table : goal.is_match-requires-clause-table
 is_match-requires-clause-table c = c.requires.table
 
 pub is_match-requires-clause-mark : goal.is_match-requires-clause-mark
-is_match-requires-clause-mark c = let g = given (goal.at.is_match-requires-clause-mark c).Start in let r_mark = candidate_mark _ _ _ _ _ _ _ (left_here (goal.at.is_match-requires-clause-mark c).In-search) in let s_mark = right_mark _ _ _ _ _ _ (right-here (goal.at.is_match-requires-clause-mark c).In-loop-s) in let across = c.splits-across.ensures.split in g.p_mark
+is_match-requires-clause-mark c =
+    let g = given (goal.at.is_match-requires-clause-mark c).Start in
+    let r_mark = candidate_mark _ _ _ _ _ _ _ (left_here (goal.at.is_match-requires-clause-mark c).In-search) in
+    let s_mark = right_mark _ _ _ _ _ _ (right-here (goal.at.is_match-requires-clause-mark c).In-loop-s) in
+    let across = c.splits-across.ensures.split in
+    g.p_mark
 
 pub is_match-requires-clause-mark_2 : goal.is_match-requires-clause-mark_2
-is_match-requires-clause-mark_2 c = let g = given (goal.at.is_match-requires-clause-mark_2 c).Start in let r_mark = candidate_mark _ _ _ _ _ _ _ (left_here (goal.at.is_match-requires-clause-mark_2 c).In-search) in let s_mark = right_mark _ _ _ _ _ _ (right-here (goal.at.is_match-requires-clause-mark_2 c).In-loop-s) in let across = c.splits-across.ensures.split in g.q_mark
+is_match-requires-clause-mark_2 c =
+    let g = given (goal.at.is_match-requires-clause-mark_2 c).Start in
+    let r_mark = candidate_mark _ _ _ _ _ _ _ (left_here (goal.at.is_match-requires-clause-mark_2 c).In-search) in
+    let s_mark = right_mark _ _ _ _ _ _ (right-here (goal.at.is_match-requires-clause-mark_2 c).In-loop-s) in
+    let across = c.splits-across.ensures.split in
+    g.q_mark
 
 pub is_match-requires-clause-mark_3 : goal.is_match-requires-clause-mark_3
-is_match-requires-clause-mark_3 c = let g = given (goal.at.is_match-requires-clause-mark_3 c).Start in let r_mark = candidate_mark _ _ _ _ _ _ _ (left_here (goal.at.is_match-requires-clause-mark_3 c).In-search) in let s_mark = right_mark _ _ _ _ _ _ (right-here (goal.at.is_match-requires-clause-mark_3 c).In-loop-s) in let across = c.splits-across.ensures.split in r_mark
+is_match-requires-clause-mark_3 c =
+    let g = given (goal.at.is_match-requires-clause-mark_3 c).Start in
+    let r_mark = candidate_mark _ _ _ _ _ _ _ (left_here (goal.at.is_match-requires-clause-mark_3 c).In-search) in
+    let s_mark = right_mark _ _ _ _ _ _ (right-here (goal.at.is_match-requires-clause-mark_3 c).In-loop-s) in
+    let across = c.splits-across.ensures.split in
+    r_mark
 
 pub is_match-requires-clause-mark_4 : goal.is_match-requires-clause-mark_4
-is_match-requires-clause-mark_4 c = let g = given (goal.at.is_match-requires-clause-mark_4 c).Start in let r_mark = candidate_mark _ _ _ _ _ _ _ (left_here (goal.at.is_match-requires-clause-mark_4 c).In-search) in let s_mark = right_mark _ _ _ _ _ _ (right-here (goal.at.is_match-requires-clause-mark_4 c).In-loop-s) in let across = c.splits-across.ensures.split in s_mark
+is_match-requires-clause-mark_4 c =
+    let g = given (goal.at.is_match-requires-clause-mark_4 c).Start in
+    let r_mark = candidate_mark _ _ _ _ _ _ _ (left_here (goal.at.is_match-requires-clause-mark_4 c).In-search) in
+    let s_mark = right_mark _ _ _ _ _ _ (right-here (goal.at.is_match-requires-clause-mark_4 c).In-loop-s) in
+    let across = c.splits-across.ensures.split in
+    s_mark
 
 pub is_match-requires-clause-across_value : goal.is_match-requires-clause-across_value
-is_match-requires-clause-across_value c = let g = given (goal.at.is_match-requires-clause-across_value c).Start in let r_mark = candidate_mark _ _ _ _ _ _ _ (left_here (goal.at.is_match-requires-clause-across_value c).In-search) in let s_mark = right_mark _ _ _ _ _ _ (right-here (goal.at.is_match-requires-clause-across_value c).In-loop-s) in let across = c.splits-across.ensures.split in across
+is_match-requires-clause-across_value c =
+    let g = given (goal.at.is_match-requires-clause-across_value c).Start in
+    let r_mark = candidate_mark _ _ _ _ _ _ _ (left_here (goal.at.is_match-requires-clause-across_value c).In-search) in
+    let s_mark = right_mark _ _ _ _ _ _ (right-here (goal.at.is_match-requires-clause-across_value c).In-loop-s) in
+    let across = c.splits-across.ensures.split in
+    across
 
 pub rest_of-ss-requires-clause-k_value : goal.rest_of-ss-requires-clause-k_value
 rest_of-ss-requires-clause-k_value c = c.loop-s.invariant.1
@@ -162,13 +222,18 @@ pub rest_of-ss-requires-clause-k_bound : goal.rest_of-ss-requires-clause-k_bound
 rest_of-ss-requires-clause-k_bound c = c.loop-s-test.true
 
 pub loop-s-smaller : goal.loop-s-smaller
-loop-s-smaller c = open_less _ _ c.loop-s.invariant.1 c.loop-s-test.true c.rest_of-ss.ensures.rest c.first_of-s-in-loop-s.ensures.first
+loop-s-smaller c =
+    open_less _ _ c.loop-s.invariant.1 c.loop-s-test.true c.rest_of-ss.ensures.rest
+    c.first_of-s-in-loop-s.ensures.first
 
 pub loop-s-preserved : goal.loop-s-preserved
-loop-s-preserved c = let i = c.loop-s.invariant in
+loop-s-preserved c =
+    let i = c.loop-s.invariant in
     let g = given (goal.at.loop-s-preserved c).Start in
     let no = sym c.is_match.ensures.fits ∙ c.if-is_match.false in
-    let miss = match_no _ _ _ _ g _ (left_here (goal.at.loop-s-preserved c).In-search) _ (right-here (goal.at.loop-s-preserved c).In-loop-s) no in
+    let miss =
+    match_no _ _ _ _ g _ (left_here (goal.at.loop-s-preserved c).In-search) _
+    (right-here (goal.at.loop-s-preserved c).In-loop-s) no in
     (i.0, c.first_of-s-in-loop-s.ensures.first, open_next i.2 i.1 g.plate.few miss c.rest_of-ss.ensures.rest)
 
 pub rest_of-lefts-requires-clause-k_value : goal.rest_of-lefts-requires-clause-k_value
@@ -178,18 +243,27 @@ pub rest_of-lefts-requires-clause-k_bound : goal.rest_of-lefts-requires-clause-k
 rest_of-lefts-requires-clause-k_bound c = c.search-test.true
 
 pub search-smaller : goal.search-smaller
-search-smaller c = open_less _ _ c.search.invariant.1 c.search-test.true c.rest_of-lefts.ensures.rest c.first_of-r-in-search.ensures.first
+search-smaller c =
+    open_less _ _ c.search.invariant.1 c.search-test.true c.rest_of-lefts.ensures.rest
+    c.first_of-r-in-search.ensures.first
 
 pub search-preserved : goal.search-preserved
 unfolding pick_right
-search-preserved c = let i = c.loop-s.invariant in
+search-preserved c =
+    let i = c.loop-s.invariant in
     let j = c.search.invariant in
     let few = (given (goal.at.search-preserved c).Start).plate.few in
     let miss = open_end i.2 i.1 few c.loop-s-test.false in
     (i.0, c.first_of-r-in-search.ensures.first, open_next j.2 j.1 few miss c.rest_of-lefts.ensures.rest)
 
 pub returns-then-found : goal.returns-then-found
-returns-then-found c = record { first = stopped_somewhere c.if-found.true (stopped (goal.at.returns-then-found c).Left-search (given (goal.at.returns-then-found c).Start)) }
+returns-then-found c = record {
+  first =
+      stopped_somewhere c.if-found.true
+      (stopped (goal.at.returns-then-found c).Left-search (given (goal.at.returns-then-found c).Start));
+}
 
 pub returns : goal.returns
-returns c = record { first = stopped_nowhere c.if-found.false (stopped (goal.at.returns c).Left-search (given (goal.at.returns c).Start)) }
+returns c = record {
+  first = stopped_nowhere c.if-found.false (stopped (goal.at.returns c).Left-search (given (goal.at.returns c).Start));
+}

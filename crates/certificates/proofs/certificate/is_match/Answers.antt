@@ -8,7 +8,6 @@ use Rattle.plane.proofs.Laws.Bounds.{rd, mark_in_range}
 use Rattle.masks.specs.Table.{split_mark}
 use Rattle.certificates.proofs.Rule7.{lighter}
 use Rattle.certificates.proofs.Apexes.{compared, across_has, goes_light, goes_across, goes_apart}
-use Rattle.std.proofs.Common.{rules}
 use Rattle.certificates.proofs.certificate.is_match.Goals as goal
 use Rattle.certificates.proofs.certificate.is_match.Goals.{After-has_mark, After-weight-2}
 
@@ -30,19 +29,27 @@ split c =
     across_has _ _ _ _ _ (omega arith) c.requires.across_value c.has_mark.ensures.member
 
 pub weight-requires-clause-in_range : goal.weight-requires-clause-in_range
-weight-requires-clause-in_range c = subst InRange (sym c.mark.ensures.placed) (mark_in_range c.requires.plate c.args.p)
+weight-requires-clause-in_range c =
+    subst InRange (sym c.mark.ensures.placed) (mark_in_range c.requires.plate c.args.p)
 
 pub weight-requires-clause-in_range_2 : goal.weight-requires-clause-in_range_2
-weight-requires-clause-in_range_2 c = subst InRange (sym c.mark-2.ensures.placed) (mark_in_range c.requires.plate c.args.q)
+weight-requires-clause-in_range_2 c =
+    subst InRange (sym c.mark-2.ensures.placed) (mark_in_range c.requires.plate c.args.q)
 
 pub weight-requires-2-clause-in_range : goal.weight-requires-2-clause-in_range
-weight-requires-2-clause-in_range c = subst InRange (sym c.mark-3.ensures.placed) (mark_in_range c.requires.plate c.args.r)
+weight-requires-2-clause-in_range c =
+    subst InRange (sym c.mark-3.ensures.placed) (mark_in_range c.requires.plate c.args.r)
 
 pub weight-requires-2-clause-in_range_2 : goal.weight-requires-2-clause-in_range_2
-weight-requires-2-clause-in_range_2 c = subst InRange (sym c.mark-4.ensures.placed) (mark_in_range c.requires.plate c.args.s)
+weight-requires-2-clause-in_range_2 c =
+    subst InRange (sym c.mark-4.ensures.placed) (mark_in_range c.requires.plate c.args.s)
 
 pub returns-then-weight : goal.returns-then-weight
-returns-then-weight c = record { fits = c.none_left.ensures.none ∙ goes_light _ _ _ _ _ (sym (weighed (goal.at.returns-then-weight c).After-weight-2) ∙ c.if-weight.true) }
+returns-then-weight c = record {
+  fits =
+      c.none_left.ensures.none ∙
+      goes_light _ _ _ _ _ (sym (weighed (goal.at.returns-then-weight c).After-weight-2) ∙ c.if-weight.true);
+}
 
 pub returns-then-has_mark : goal.returns-then-has_mark
 returns-then-has_mark c = record {
@@ -51,4 +58,6 @@ returns-then-has_mark c = record {
 }
 
 pub returns : goal.returns
-returns c = record { fits = c.none_left-2.ensures.none ∙ goes_apart _ _ _ _ _ (split (goal.at.returns c).After-has_mark ∙ c.if-has_mark.false) }
+returns c = record {
+  fits = c.none_left-2.ensures.none ∙ goes_apart _ _ _ _ _ (split (goal.at.returns c).After-has_mark ∙ c.if-has_mark.false);
+}

@@ -2,11 +2,12 @@
 -- says. Assumes nothing.
 use mathlib.Core.Path.{sym, ◌∙◌}
 use Rattle.certificates.proofs.Candidates.{right_all, right_none}
-use Rattle.std.proofs.Common.{rules}
 use Rattle.certificates.proofs.certificate.right_candidates.Goals as goal
 
 pub returns-then-none_left : goal.returns-then-none_left
-returns-then-none_left c = record { found = right_all _ _ c.args.p c.args.q c.args.r (sym c.none_left.ensures.none ∙ c.if-none_left.true) c.requires.rights_value }
+returns-then-none_left c = record {
+  found = right_all _ _ c.args.p c.args.q c.args.r (sym c.none_left.ensures.none ∙ c.if-none_left.true) c.requires.rights_value;
+}
 
 pub returns : goal.returns
 returns c = record { found = right_none _ _ c.args.p c.args.q c.args.r (sym c.none_left.ensures.none ∙ c.if-none_left.false) }

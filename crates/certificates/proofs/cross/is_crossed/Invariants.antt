@@ -1,16 +1,13 @@
 -- `cross::is_crossed` meets its contract. The loop's invariant: of the marks left of p to q, those no longer in the set have no
 -- edge that crosses (p, q), and r is the first that is still in it. An edge that crosses has one end on the left, so at the end
 -- there is none. The measure is what 128 leaves above r. Assumes nothing.
-use mathlib.Core.Path.{◌≡◌, sym, ◌∙◌}
+use mathlib.Core.Path.{◌≡◌}
 use Prim.Native.Nat.{◌-◌}
-use native.Mathlib.Omega.{arith}
 use Rattle.plane.specs.Numbers.{first_to}
 use Rattle.sets.specs.Sets.{has}
-use Rattle.sets.proofs.Laws.Members.{first_member, next_later}
 use Rattle.striking.specs.Status.{remaining}
 use Rattle.certificates.specs.Plate.{edges_of}
-use Rattle.certificates.proofs.Crossing.{Passed, pass_start, pass_next, pass_end, from_crosses, from_none}
-use Rattle.std.proofs.Common.{rules}
+use Rattle.certificates.proofs.Crossing.{Passed}
 use Rattle.certificates.proofs.cross.is_crossed.Given as goal
 
 abbrev pub invariant-loop-r : goal.invariant-loop-r

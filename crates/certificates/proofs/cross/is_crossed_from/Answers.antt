@@ -2,7 +2,6 @@
 -- are three sets, and the marks in all three are the far ends of the edges from r that cross (p, q). Assumes nothing.
 use mathlib.Core.Path.{◌∙◌}
 use Rattle.certificates.proofs.Crossing.{from_three}
-use Rattle.std.proofs.Common.{rules}
 use Rattle.certificates.proofs.cross.is_crossed_from.Goals as goal
 
 pub returns : goal.returns

@@ -1,13 +1,8 @@
 -- `rows::fill_rows` meets its contract. The loop's invariant: p is pair i, and the rows are those of the pairs below i. No pair is
 -- below 0, and past the last byte there is none to add. The measure is what is left of the bytes. Assumes nothing.
-use mathlib.Core.Path.{◌≡◌, refl, sym, ap, ◌∙◌}
-use Prim.Native.Nat.{ℕ, ◌-◌, ◌≤◌}
+use mathlib.Core.Path.{refl}
 use native.Mathlib.Omega.{arith}
-use lib.ListN.{length, length-replicate}
 use Rattle.pairs.specs.Pairs.{pair_at}
-use Rattle.striking.specs.Status.{remaining}
-use Rattle.certificates.specs.Plate.{edges_of}
-use Rattle.certificates.specs.Rows.{Rows, below}
 use Rattle.certificates.proofs.Near.{rows_start, rows_end}
 use Rattle.certificates.proofs.Places.{place, pair_at_next}
 use Rattle.std.proofs.Common.{rules}
@@ -24,25 +19,48 @@ pub join-requires-clause-clean : goal.join-requires-clause-clean
 join-requires-clause-clean c = c.requires.clean
 
 pub join-requires-clause-rows : goal.join-requires-clause-rows
-join-requires-clause-rows c = let l = c.loop-i in let n = place c.args.m.now l.i l.invariant.1 (omega arith) in l.invariant.2
+join-requires-clause-rows c =
+    let l = c.loop-i in
+    let n = place c.args.m.now l.i l.invariant.1 (omega arith) in
+    l.invariant.2
 
 pub join-requires-clause-a_lt_b : goal.join-requires-clause-a_lt_b
-join-requires-clause-a_lt_b c = let l = c.loop-i in let n = place c.args.m.now l.i l.invariant.1 (omega arith) in n.up
+join-requires-clause-a_lt_b c =
+    let l = c.loop-i in
+    let n = place c.args.m.now l.i l.invariant.1 (omega arith) in
+    n.up
 
 pub join-requires-clause-mark : goal.join-requires-clause-mark
-join-requires-clause-mark c = let l = c.loop-i in let n = place c.args.m.now l.i l.invariant.1 (omega arith) in n.mark
+join-requires-clause-mark c =
+    let l = c.loop-i in
+    let n = place c.args.m.now l.i l.invariant.1 (omega arith) in
+    n.mark
 
 pub join-requires-clause-i_value : goal.join-requires-clause-i_value
-join-requires-clause-i_value c = let l = c.loop-i in let n = place c.args.m.now l.i l.invariant.1 (omega arith) in n.number
+join-requires-clause-i_value c =
+    let l = c.loop-i in
+    let n = place c.args.m.now l.i l.invariant.1 (omega arith) in
+    n.number
 
 pub next_pair-p-requires-clause-a_lt_b : goal.next_pair-p-requires-clause-a_lt_b
-next_pair-p-requires-clause-a_lt_b c = let l = c.loop-i in let n = place c.args.m.now l.i l.invariant.1 (omega arith) in let few = c.requires.plate.few in let mark = n.mark in n.up
+next_pair-p-requires-clause-a_lt_b c =
+    let l = c.loop-i in
+    let n = place c.args.m.now l.i l.invariant.1 (omega arith) in
+    let few = c.requires.plate.few in
+    let mark = n.mark in
+    n.up
 
 pub next_pair-p-requires-clause-b_bound : goal.next_pair-p-requires-clause-b_bound
-next_pair-p-requires-clause-b_bound c = let l = c.loop-i in let n = place c.args.m.now l.i l.invariant.1 (omega arith) in let few = c.requires.plate.few in let mark = n.mark in omega arith
+next_pair-p-requires-clause-b_bound c =
+    let l = c.loop-i in
+    let n = place c.args.m.now l.i l.invariant.1 (omega arith) in
+    let few = c.requires.plate.few in
+    let mark = n.mark in
+    omega arith
 
 pub loop-i-preserved : goal.loop-i-preserved
-loop-i-preserved c = let l = c.loop-i in
+loop-i-preserved c =
+    let l = c.loop-i in
     (search rules, pair_at_next l.i c.next_pair-p.ensures.next l.invariant.1, c.join.ensures.joined)
 
 pub returns : goal.returns

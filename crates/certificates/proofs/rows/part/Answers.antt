@@ -1,7 +1,6 @@
 -- `rows::part` meets its contract. The set loses one edge, (a, b), so row a loses b, row b loses a, and
 -- every other row stays. Assumes nothing.
 use Rattle.certificates.proofs.Near.{rows_parted}
-use Rattle.std.proofs.Common.{rules}
 use Rattle.certificates.proofs.rows.part.Goals as goal
 
 pub returns : goal.returns

@@ -5,16 +5,23 @@ use borrow.Author.Tests.{lt-ltb, le-ltb}
 use Rattle.pairs.specs.Pairs.{pair_count}
 use Rattle.listing.specs.Program.{status_room}
 use Rattle.plane.proofs.Laws.Tells.{cond_yes, cond_no}
-use Rattle.std.proofs.Common.{rules}
 use Rattle.listing.proofs.list.status_room.Goals as goal
 
 pub returns-then-n-gt128 : goal.returns-then-n-gt128
 unfolding status_room
-returns-then-n-gt128 c = record { room = sym (cond_yes _ _ (lt-ltb _ _ (subst (λ (k : ℕ). 128 < k) c.count-n.ensures.counted c.if-n-gt128.true))) }
+returns-then-n-gt128 c = record {
+  room = sym (cond_yes _ _ (lt-ltb _ _ (subst (λ (k : ℕ). 128 < k) c.count-n.ensures.counted c.if-n-gt128.true)));
+}
 
 pub pair_count-requires : goal.pair_count-requires
 pair_count-requires c = c.if-n-gt128.false
 
 pub returns : goal.returns
 unfolding status_room
-returns c = let e = c.count-n.ensures.counted in record { room = c.pair_count.ensures.counted ∙ ap pair_count e ∙ sym (cond_no _ _ (le-ltb _ _ (subst (λ (k : ℕ). k ≤ 128) e c.if-n-gt128.false))) }
+returns c =
+    let e = c.count-n.ensures.counted in
+    record {
+      room =
+          c.pair_count.ensures.counted ∙ ap pair_count e ∙
+          sym (cond_no _ _ (le-ltb _ _ (subst (λ (k : ℕ). k ≤ 128) e c.if-n-gt128.false)));
+    }

@@ -6,13 +6,27 @@ use Rattle.plane.specs.Cross.{crosses}
 use Rattle.plane.proofs.Laws.Bounds.{back}
 use Rattle.plane.proofs.Laws.Side.{side_opposite}
 use Rattle.plane.proofs.Laws.Tells.{cond_yes, cond_no}
-use Rattle.std.proofs.Common.{rules}
 use Rattle.plane.proofs.cross.is_crossing.Goals as goal
 
 pub returns-then-not-is_opposite : goal.returns-then-not-is_opposite
 unfolding crosses
-returns-then-not-is_opposite c = record { crossing = sym (cond_no _ _ (sym (side_opposite _ _ _ _ _ _) ∙ ap₂ opposite (sym c.side.ensures.sided ∙ sym (back (record { sfits = c.side.type_inv }))) (sym c.side-2.ensures.sided ∙ sym (back (record { sfits = c.side-2.type_inv }))) ∙ sym c.is_opposite.ensures.opposite ∙ not-true _ c.if-not-is_opposite.true-raw)) }
+returns-then-not-is_opposite c = record {
+  crossing =
+      sym (cond_no _ _ (sym (side_opposite _ _ _ _ _ _) ∙ ap₂ opposite
+      (sym c.side.ensures.sided ∙ sym (back (record { sfits = c.side.type_inv })))
+      (sym c.side-2.ensures.sided ∙ sym (back (record { sfits = c.side-2.type_inv }))) ∙ sym
+      c.is_opposite.ensures.opposite ∙ not-true _ c.if-not-is_opposite.true-raw));
+}
 
 pub returns : goal.returns
 unfolding crosses
-returns c = record { crossing = sym (cond_yes _ _ (sym (side_opposite _ _ _ _ _ _) ∙ ap₂ opposite (sym c.side.ensures.sided ∙ sym (back (record { sfits = c.side.type_inv }))) (sym c.side-2.ensures.sided ∙ sym (back (record { sfits = c.side-2.type_inv }))) ∙ sym c.is_opposite.ensures.opposite ∙ not-false _ c.if-not-is_opposite.false-raw) ∙ sym (side_opposite _ _ _ _ _ _) ∙ ap₂ opposite (sym c.side-3.ensures.sided ∙ sym (back (record { sfits = c.side-3.type_inv }))) (sym c.side-4.ensures.sided ∙ sym (back (record { sfits = c.side-4.type_inv }))) ∙ sym c.is_opposite-2.ensures.opposite) }
+returns c = record {
+  crossing =
+      sym (cond_yes _ _ (sym (side_opposite _ _ _ _ _ _) ∙ ap₂ opposite
+      (sym c.side.ensures.sided ∙ sym (back (record { sfits = c.side.type_inv })))
+      (sym c.side-2.ensures.sided ∙ sym (back (record { sfits = c.side-2.type_inv }))) ∙ sym
+      c.is_opposite.ensures.opposite ∙ not-false _ c.if-not-is_opposite.false-raw) ∙ sym (side_opposite _ _ _ _ _
+      _) ∙ ap₂ opposite (sym c.side-3.ensures.sided ∙ sym (back (record { sfits = c.side-3.type_inv }))) (sym
+      c.side-4.ensures.sided ∙ sym (back (record { sfits = c.side-4.type_inv }))) ∙ sym
+      c.is_opposite-2.ensures.opposite);
+}

@@ -4,7 +4,6 @@ use lib.IntN.{ℤ, pos}
 use lib.Signed.{le_z}
 use Rattle.plane.specs.Edge.{between}
 use Rattle.plane.proofs.Laws.Bounds.{back}
-use Rattle.std.proofs.Common.{rules}
 use Rattle.plane.proofs.edge.is_between.Goals as goal
 
 pub returns : goal.returns

@@ -6,7 +6,6 @@ use Rattle.plane.specs.Marks.{InRange}
 use Rattle.plane.specs.Edge.{on_segment, clear}
 use Rattle.plane.proofs.Laws.Bounds.{mark_in_range}
 use Rattle.plane.proofs.Laws.Tells.{cond_yes, cond_no}
-use Rattle.std.proofs.Common.{rules}
 use Rattle.plane.proofs.edge.is_clear.Goals as goal
 
 pub returns-then-k-a : goal.returns-then-k-a
@@ -18,14 +17,22 @@ unfolding clear
 returns-then-k-b c = record { clear = sym (cond_no _ _ (ne_eqb _ _ c.if-k-a.false) ∙ cond_yes _ _ (eq-eqb _ _ c.if-k-b.true)) }
 
 pub is_on_segment-requires-clause-in_range : goal.is_on_segment-requires-clause-in_range
-is_on_segment-requires-clause-in_range c = let h = c.requires.plate in subst InRange (sym c.mark.ensures.placed) (mark_in_range h _)
+is_on_segment-requires-clause-in_range c =
+    subst InRange (sym c.mark.ensures.placed) (mark_in_range c.requires.plate _)
 
 pub is_on_segment-requires-clause-in_range_2 : goal.is_on_segment-requires-clause-in_range_2
-is_on_segment-requires-clause-in_range_2 c = let h = c.requires.plate in subst InRange (sym c.mark-2.ensures.placed) (mark_in_range h _)
+is_on_segment-requires-clause-in_range_2 c =
+    subst InRange (sym c.mark-2.ensures.placed) (mark_in_range c.requires.plate _)
 
 pub is_on_segment-requires-clause-in_range_3 : goal.is_on_segment-requires-clause-in_range_3
-is_on_segment-requires-clause-in_range_3 c = let h = c.requires.plate in subst InRange (sym c.mark-3.ensures.placed) (mark_in_range h _)
+is_on_segment-requires-clause-in_range_3 c =
+    subst InRange (sym c.mark-3.ensures.placed) (mark_in_range c.requires.plate _)
 
 pub returns : goal.returns
 unfolding clear
-returns c = record { clear = ap not (c.is_on_segment.ensures.on ∙ (λ i. on_segment (c.mark.ensures.placed i) (c.mark-2.ensures.placed i) (c.mark-3.ensures.placed i))) ∙ sym (cond_no _ _ (ne_eqb _ _ c.if-k-a.false) ∙ cond_no _ _ (ne_eqb _ _ c.if-k-b.false)) }
+returns c = record {
+  clear =
+      ap not
+      (c.is_on_segment.ensures.on ∙ (λ i. on_segment (c.mark.ensures.placed i) (c.mark-2.ensures.placed i) (c.mark-3.ensures.placed i))) ∙
+      sym (cond_no _ _ (ne_eqb _ _ c.if-k-a.false) ∙ cond_no _ _ (ne_eqb _ _ c.if-k-b.false));
+}

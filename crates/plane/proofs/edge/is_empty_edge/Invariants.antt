@@ -1,14 +1,10 @@
 -- `edge::is_empty_edge` meets its contract. The invariant: the marks passed leave the edge clear. Assumes nothing.
-use mathlib.Core.Path.{◌≡◌, sym, ◌∙◌}
+use mathlib.Core.Path.{◌≡◌}
 use mathlib.Core.Bool.{true}
 use Prim.Native.Nat.{◌-◌, ◌≤◌}
-use native.Mathlib.Omega.{arith}
-use borrow.Author.Tests.{not-true, not-false}
 use Rattle.plane.specs.Numbers.{all_to}
 use Rattle.plane.specs.Marks.{count}
-use Rattle.plane.specs.Edge.{clear, empty_edge}
-use Rattle.plane.proofs.Laws.Numbers.{all_none, all_more, all_no, all_end}
-use Rattle.std.proofs.Common.{rules}
+use Rattle.plane.specs.Edge.{clear}
 use Rattle.plane.proofs.edge.is_empty_edge.Given as goal
 
 abbrev pub invariant-loop-k : goal.invariant-loop-k

@@ -9,11 +9,14 @@ use Rattle.plane.proofs.Laws.Bounds.{back, mark_in_range}
 use Rattle.plane.proofs.Laws.Side.{side_on}
 use Rattle.plane.proofs.Laws.Edge.{clear_at_a, clear_at_b, clear_off, clear_third}
 use Rattle.plane.proofs.Laws.Tells.{not_not}
-use Rattle.std.proofs.Common.{rules}
 use Rattle.plane.proofs.hull.is_blocking.Goals as goal
 
 pub returns-then-not-is_on : goal.returns-then-not-is_on
-returns-then-not-is_on c = let s = c in record { blocking = sym (ap not (clear_off _ _ _ _ (sym (side_on _ _ _) ∙ ap is_on (sym s.requires.s_value ∙ sym (back s.ranges.s)) ∙ sym c.is_on.ensures.on ∙ not-true _ c.if-not-is_on.true-raw))) }
+returns-then-not-is_on c = record {
+  blocking =
+      sym (ap not (clear_off _ _ _ _ (sym (side_on _ _ _) ∙ ap is_on (sym c.requires.s_value ∙ sym (back c.ranges.s))
+      ∙ sym c.is_on.ensures.on ∙ not-true _ c.if-not-is_on.true-raw)));
+}
 
 pub returns-then-k-a : goal.returns-then-k-a
 returns-then-k-a c = record { blocking = sym (ap not (clear_at_a _ _ _ _ c.if-k-a.true)) }
@@ -22,13 +25,22 @@ pub returns-then-k-b : goal.returns-then-k-b
 returns-then-k-b c = record { blocking = sym (ap not (clear_at_b _ _ _ _ c.if-k-b.true)) }
 
 pub is_between-requires-clause-in_range : goal.is_between-requires-clause-in_range
-is_between-requires-clause-in_range c = let h = c.requires.plate in subst InRange (sym c.mark.ensures.placed) (mark_in_range h _)
+is_between-requires-clause-in_range c = subst InRange (sym c.mark.ensures.placed) (mark_in_range c.requires.plate _)
 
 pub is_between-requires-clause-in_range_2 : goal.is_between-requires-clause-in_range_2
-is_between-requires-clause-in_range_2 c = let h = c.requires.plate in subst InRange (sym c.mark-2.ensures.placed) (mark_in_range h _)
+is_between-requires-clause-in_range_2 c =
+    subst InRange (sym c.mark-2.ensures.placed) (mark_in_range c.requires.plate _)
 
 pub is_between-requires-clause-in_range_3 : goal.is_between-requires-clause-in_range_3
-is_between-requires-clause-in_range_3 c = let h = c.requires.plate in subst InRange (sym c.mark-3.ensures.placed) (mark_in_range h _)
+is_between-requires-clause-in_range_3 c =
+    subst InRange (sym c.mark-3.ensures.placed) (mark_in_range c.requires.plate _)
 
 pub returns : goal.returns
-returns c = let s = c in record { blocking = c.is_between.ensures.between ∙ (λ i. between (c.mark.ensures.placed i) (c.mark-2.ensures.placed i) (c.mark-3.ensures.placed i)) ∙ sym (ap not (clear_third _ _ _ _ c.if-k-a.false c.if-k-b.false (sym (side_on _ _ _) ∙ ap is_on (sym s.requires.s_value ∙ sym (back s.ranges.s)) ∙ sym c.is_on.ensures.on ∙ not-false _ c.if-not-is_on.false-raw)) ∙ not_not _) }
+returns c = record {
+  blocking =
+      c.is_between.ensures.between ∙
+      (λ i. between (c.mark.ensures.placed i) (c.mark-2.ensures.placed i) (c.mark-3.ensures.placed i)) ∙
+      sym (ap not (clear_third _ _ _ _ c.if-k-a.false c.if-k-b.false (sym (side_on _ _ _) ∙ ap is_on
+      (sym c.requires.s_value ∙ sym (back c.ranges.s)) ∙ sym c.is_on.ensures.on ∙ not-false _
+      c.if-not-is_on.false-raw)) ∙ not_not _);
+}

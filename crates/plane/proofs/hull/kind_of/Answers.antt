@@ -2,13 +2,11 @@
 -- them lies strictly left, strictly right. Assumes nothing.
 use mathlib.Core.Path.{◌≡◌, refl, sym, ◌∙◌, ap, ap₂, subst}
 use mathlib.Core.Bool.{true, not, cond}
-use Prim.Native.Nat.{◌-◌, ◌≤◌}
 use native.Mathlib.Omega.{arith}
 use borrow.Author.Tests.{not-true, not-false}
-use Rattle.plane.specs.Numbers.{all_to}
 use Rattle.plane.specs.Marks.{count, InRange}
 use Rattle.plane.specs.Side.{side, is_left, is_right}
-use Rattle.plane.specs.Edge.{clear, empty_edge}
+use Rattle.plane.specs.Edge.{empty_edge}
 use Rattle.plane.specs.Hull.{not_left, not_right}
 use Rattle.plane.proofs.Laws.Numbers.{all_none, all_more, all_no, all_upto, some_turn}
 use Rattle.plane.proofs.Laws.Bounds.{mark_in_range, back}
@@ -19,16 +17,19 @@ use Rattle.std.proofs.Common.{rules}
 use Rattle.plane.proofs.hull.kind_of.Goals as goal
 
 pub loop-k-init : goal.loop-k-init
-loop-k-init c = (search rules, c.count-n.ensures.counted, all_none _, sym (ap not (all_none _)), sym (ap not (all_none _)))
+loop-k-init c =
+    (search rules, c.count-n.ensures.counted, all_none _, sym (ap not (all_none _)), sym (ap not (all_none _)))
 
 pub side-s-requires-clause-in_range : goal.side-s-requires-clause-in_range
-side-s-requires-clause-in_range c = let h = c.requires.plate in subst InRange (sym c.mark.ensures.placed) (mark_in_range h _)
+side-s-requires-clause-in_range c = subst InRange (sym c.mark.ensures.placed) (mark_in_range c.requires.plate _)
 
 pub side-s-requires-clause-in_range_2 : goal.side-s-requires-clause-in_range_2
-side-s-requires-clause-in_range_2 c = let h = c.requires.plate in subst InRange (sym c.mark-in-loop-k.ensures.placed) (mark_in_range h _)
+side-s-requires-clause-in_range_2 c =
+    subst InRange (sym c.mark-in-loop-k.ensures.placed) (mark_in_range c.requires.plate _)
 
 pub side-s-requires-clause-in_range_3 : goal.side-s-requires-clause-in_range_3
-side-s-requires-clause-in_range_3 c = let h = c.requires.plate in subst InRange (sym c.mark-in-loop-k-2.ensures.placed) (mark_in_range h _)
+side-s-requires-clause-in_range_3 c =
+    subst InRange (sym c.mark-in-loop-k-2.ensures.placed) (mark_in_range c.requires.plate _)
 
 pub is_blocking-requires-clause-plate : goal.is_blocking-requires-clause-plate
 is_blocking-requires-clause-plate c = c.requires.plate
@@ -40,24 +41,65 @@ pub is_blocking-requires-clause-mark_2 : goal.is_blocking-requires-clause-mark_2
 is_blocking-requires-clause-mark_2 c = c.requires.mark_2
 
 pub is_blocking-requires-clause-s_value : goal.is_blocking-requires-clause-s_value
-is_blocking-requires-clause-s_value c = back (record { sfits = c.side-s.type_inv }) ∙ c.side-s.ensures.sided ∙ (λ i. side (c.mark.ensures.placed i) (c.mark-in-loop-k.ensures.placed i) (c.mark-in-loop-k-2.ensures.placed i))
+is_blocking-requires-clause-s_value c =
+    back (record { sfits = c.side-s.type_inv }) ∙ c.side-s.ensures.sided ∙
+    (λ i. side (c.mark.ensures.placed i) (c.mark-in-loop-k.ensures.placed i) (c.mark-in-loop-k-2.ensures.placed i))
 
 pub returns-then-is_blocking : goal.returns-then-is_blocking
 unfolding empty_edge
-returns-then-is_blocking c = record { kind = sym (kind_blocked _ _ _ (all_no _ c.loop-k.k _ (search rules) (not-true _ (sym c.is_blocking.ensures.blocking ∙ c.if-is_blocking.true)))) }
+returns-then-is_blocking c = record {
+  kind =
+      sym
+      (kind_blocked _ _ _ (all_no _ c.loop-k.k _ (search rules) (not-true _ (sym c.is_blocking.ensures.blocking ∙ c.if-is_blocking.true))));
+}
 
 pub loop-k-preserved : goal.loop-k-preserved
 unfolding not_left not_right
-loop-k-preserved c = let l = c.loop-k in (search rules, l.invariant.1, all_more _ _ l.invariant.2 (not-false _ (sym c.is_blocking.ensures.blocking ∙ c.if-is_blocking.false)), c.either-left.ensures.or ∙ ap₂ (λ x y. cond x true y) l.invariant.3 (c.is_left.ensures.left ∙ ap is_left (back (record { sfits = c.side-s.type_inv }) ∙ c.side-s.ensures.sided ∙ (λ i. side (c.mark.ensures.placed i) (c.mark-in-loop-k.ensures.placed i) (c.mark-in-loop-k-2.ensures.placed i))) ∙ side_left _ _ _) ∙ some_turn _ l.k _ refl, c.either-right.ensures.or ∙ ap₂ (λ x y. cond x true y) l.invariant.4 (c.is_right.ensures.right ∙ ap is_right (back (record { sfits = c.side-s.type_inv }) ∙ c.side-s.ensures.sided ∙ (λ i. side (c.mark.ensures.placed i) (c.mark-in-loop-k.ensures.placed i) (c.mark-in-loop-k-2.ensures.placed i))) ∙ side_right _ _ _) ∙ some_turn _ l.k _ refl)
+loop-k-preserved c = (
+  search rules,
+  c.loop-k.invariant.1,
+  all_more _ _ c.loop-k.invariant.2 (not-false _ (sym c.is_blocking.ensures.blocking ∙ c.if-is_blocking.false)),
+  c.either-left.ensures.or ∙
+      ap₂ (λ x y. cond x true y) c.loop-k.invariant.3 (c.is_left.ensures.left ∙ ap is_left (back
+      (record { sfits = c.side-s.type_inv }) ∙ c.side-s.ensures.sided ∙
+      (λ i. side (c.mark.ensures.placed i) (c.mark-in-loop-k.ensures.placed i) (c.mark-in-loop-k-2.ensures.placed i)))
+      ∙ side_left _ _ _) ∙
+      some_turn _ c.loop-k.k _ refl,
+  c.either-right.ensures.or ∙
+      ap₂ (λ x y. cond x true y) c.loop-k.invariant.4 (c.is_right.ensures.right ∙ ap is_right (back
+      (record { sfits = c.side-s.type_inv }) ∙ c.side-s.ensures.sided ∙
+      (λ i. side (c.mark.ensures.placed i) (c.mark-in-loop-k.ensures.placed i) (c.mark-in-loop-k-2.ensures.placed i)))
+      ∙ side_right _ _ _) ∙
+      some_turn _ c.loop-k.k _ refl,
+)
 
 pub returns-then-not-left : goal.returns-then-not-left
 unfolding empty_edge
-returns-then-not-left c = let l = c.loop-k in let e : l.k ≡ count c.args.m.now = omega arith in record { kind = sym (kind_left _ _ _ (all_upto _ e l.invariant.2) (all_upto _ e (sym (not_not _) ∙ ap not (sym l.invariant.3) ∙ c.if-not-left.true-raw))) }
+returns-then-not-left c =
+    let e : c.loop-k.k ≡ count c.args.m.now = omega arith in
+    record {
+      kind =
+          sym (kind_left _ _ _ (all_upto _ e c.loop-k.invariant.2)
+          (all_upto _ e (sym (not_not _) ∙ ap not (sym c.loop-k.invariant.3) ∙ c.if-not-left.true-raw)));
+    }
 
 pub returns-then-not-right : goal.returns-then-not-right
 unfolding empty_edge
-returns-then-not-right c = let l = c.loop-k in let e : l.k ≡ count c.args.m.now = omega arith in record { kind = sym (kind_right _ _ _ (all_upto _ e l.invariant.2) (all_upto _ e (sym (not_not _) ∙ ap not (sym l.invariant.4) ∙ c.if-not-right.true-raw))) }
+returns-then-not-right c =
+    let e : c.loop-k.k ≡ count c.args.m.now = omega arith in
+    record {
+      kind =
+          sym (kind_right _ _ _ (all_upto _ e c.loop-k.invariant.2)
+          (all_upto _ e (sym (not_not _) ∙ ap not (sym c.loop-k.invariant.4) ∙ c.if-not-right.true-raw)));
+    }
 
 pub returns : goal.returns
 unfolding empty_edge
-returns c = let l = c.loop-k in let e : l.k ≡ count c.args.m.now = omega arith in record { kind = sym (kind_inner _ _ _ (all_upto _ e l.invariant.2) (all_upto _ e (sym (not_not _) ∙ ap not (sym l.invariant.3) ∙ c.if-not-left.false-raw)) (all_upto _ e (sym (not_not _) ∙ ap not (sym l.invariant.4) ∙ c.if-not-right.false-raw))) }
+returns c =
+    let e : c.loop-k.k ≡ count c.args.m.now = omega arith in
+    record {
+      kind =
+          sym (kind_inner _ _ _ (all_upto _ e c.loop-k.invariant.2)
+          (all_upto _ e (sym (not_not _) ∙ ap not (sym c.loop-k.invariant.3) ∙ c.if-not-left.false-raw))
+          (all_upto _ e (sym (not_not _) ∙ ap not (sym c.loop-k.invariant.4) ∙ c.if-not-right.false-raw)));
+    }

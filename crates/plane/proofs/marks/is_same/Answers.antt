@@ -9,8 +9,15 @@ use Rattle.plane.proofs.marks.is_same.Goals as goal
 
 pub returns-then-p-q : goal.returns-then-p-q
 unfolding same_point
-returns-then-p-q c = let a = c.args in record { same = sym (cond_no _ _ (sym (bits_same a.p.x a.q.x (search rules) (search rules)) ∙ ne_eqb _ _ c.if-p-q.true)) }
+returns-then-p-q c = record {
+  same = sym (cond_no _ _ (sym (bits_same c.args.p.x c.args.q.x (search rules) (search rules)) ∙ ne_eqb _ _ c.if-p-q.true));
+}
 
 pub returns : goal.returns
 unfolding same_point
-returns c = let a = c.args in record { same = bits_same a.p.y a.q.y (search rules) (search rules) ∙ sym (cond_yes _ _ (sym (bits_same a.p.x a.q.x (search rules) (search rules)) ∙ eq-eqb _ _ c.if-p-q.false)) }
+returns c = record {
+  same =
+      bits_same c.args.p.y c.args.q.y (search rules) (search rules) ∙
+      sym
+      (cond_yes _ _ (sym (bits_same c.args.p.x c.args.q.x (search rules) (search rules)) ∙ eq-eqb _ _ c.if-p-q.false));
+}

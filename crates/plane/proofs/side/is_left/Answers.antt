@@ -4,7 +4,6 @@ use lib.IntN.{ℤ, pos}
 use lib.Signed.{lt_z}
 use Rattle.plane.specs.Side.{is_left}
 use Rattle.plane.proofs.Laws.Bounds.{back}
-use Rattle.std.proofs.Common.{rules}
 use Rattle.plane.proofs.side.is_left.Goals as goal
 
 pub returns : goal.returns

@@ -1,6 +1,5 @@
 -- `side::is_on` meets its contract: bits 0 are the number 0. Assumes nothing.
 use Rattle.plane.proofs.Laws.Bits.{bits_on}
-use Rattle.std.proofs.Common.{rules}
 use Rattle.plane.proofs.side.is_on.Goals as goal
 
 pub returns : goal.returns

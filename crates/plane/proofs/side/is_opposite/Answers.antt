@@ -3,17 +3,30 @@ use mathlib.Core.Path.{◌∙◌, sym, ap}
 use Rattle.plane.specs.Side.{is_left, is_right, opposite}
 use Rattle.plane.proofs.Laws.Bounds.{back}
 use Rattle.plane.proofs.Laws.Tells.{cond_yes, cond_no}
-use Rattle.std.proofs.Common.{rules}
 use Rattle.plane.proofs.side.is_opposite.Goals as goal
 
 pub returns-then-is_left : goal.returns-then-is_left
 unfolding opposite
-returns-then-is_left c = let f = c.ranges in record { opposite = c.is_right.ensures.right ∙ ap is_right (back f.t) ∙ sym (cond_yes _ _ (ap is_left (sym (back f.s)) ∙ sym c.is_left.ensures.left ∙ c.if-is_left.true)) }
+returns-then-is_left c = record {
+  opposite =
+      c.is_right.ensures.right ∙ ap is_right (back c.ranges.t) ∙
+      sym (cond_yes _ _ (ap is_left (sym (back c.ranges.s)) ∙ sym c.is_left.ensures.left ∙ c.if-is_left.true));
+}
 
 pub returns-then-is_right : goal.returns-then-is_right
 unfolding opposite
-returns-then-is_right c = let f = c.ranges in record { opposite = c.is_left-then-is_right.ensures.left ∙ ap is_left (back f.t) ∙ sym (cond_no _ _ (ap is_left (sym (back f.s)) ∙ sym c.is_left.ensures.left ∙ c.if-is_left.false) ∙ cond_yes _ _ (ap is_right (sym (back f.s)) ∙ sym c.is_right-2.ensures.right ∙ c.if-is_right.true)) }
+returns-then-is_right c = record {
+  opposite =
+      c.is_left-then-is_right.ensures.left ∙ ap is_left (back c.ranges.t) ∙
+      sym (cond_no _ _ (ap is_left (sym (back c.ranges.s)) ∙ sym c.is_left.ensures.left ∙ c.if-is_left.false) ∙
+      cond_yes _ _
+      (ap is_right (sym (back c.ranges.s)) ∙ sym c.is_right-2.ensures.right ∙ c.if-is_right.true));
+}
 
 pub returns : goal.returns
 unfolding opposite
-returns c = let f = c.ranges in record { opposite = sym (cond_no _ _ (ap is_left (sym (back f.s)) ∙ sym c.is_left.ensures.left ∙ c.if-is_left.false) ∙ cond_no _ _ (ap is_right (sym (back f.s)) ∙ sym c.is_right-2.ensures.right ∙ c.if-is_right.false)) }
+returns c = record {
+  opposite =
+      sym (cond_no _ _ (ap is_left (sym (back c.ranges.s)) ∙ sym c.is_left.ensures.left ∙ c.if-is_left.false) ∙
+      cond_no _ _ (ap is_right (sym (back c.ranges.s)) ∙ sym c.is_right-2.ensures.right ∙ c.if-is_right.false));
+}

@@ -11,7 +11,6 @@ use mir.Syntax.{w32}
 use mir.Val.{SFits, to_z, of_z}
 use Rattle.plane.specs.Side.{sign}
 use Rattle.plane.proofs.Laws.Bounds.{back}
-use Rattle.std.proofs.Common.{rules}
 use Rattle.plane.proofs.side.sign.Goals as goal
 
 at_zero : (z : ℤ) → SFits w32 z → of_z w32 z ≡ 0 → pos 0 ≡ sign z
@@ -39,4 +38,6 @@ pub returns-then-z-lt0 : goal.returns-then-z-lt0
 returns-then-z-lt0 c = record { signed = below c.args.z (ap (λ (x : ℤ). lt_z x (pos 0)) (sym (back c.ranges.z)) ∙ c.if-z-lt0.true) }
 
 pub returns : goal.returns
-returns c = record { signed = above c.args.z c.if-z-eq0.false (ap (λ (x : ℤ). lt_z x (pos 0)) (sym (back c.ranges.z)) ∙ c.if-z-lt0.false) }
+returns c = record {
+  signed = above c.args.z c.if-z-eq0.false (ap (λ (x : ℤ). lt_z x (pos 0)) (sym (back c.ranges.z)) ∙ c.if-z-lt0.false);
+}

@@ -7,34 +7,68 @@ use Rattle.plane.specs.Triangle.{empty_triangle}
 use Rattle.plane.proofs.Laws.Bounds.{back, mark_in_range}
 use Rattle.plane.proofs.Laws.Side.{side_on}
 use Rattle.plane.proofs.Laws.Tells.{cond_yes, cond_no}
-use Rattle.std.proofs.Common.{rules}
 use Rattle.plane.proofs.triangle.is_empty_triangle.Goals as goal
 
 pub side-requires-clause-in_range : goal.side-requires-clause-in_range
-side-requires-clause-in_range c = let h = c.requires.plate in subst InRange (sym c.mark.ensures.placed) (mark_in_range h _)
+side-requires-clause-in_range c = subst InRange (sym c.mark.ensures.placed) (mark_in_range c.requires.plate _)
 
 pub side-requires-clause-in_range_2 : goal.side-requires-clause-in_range_2
-side-requires-clause-in_range_2 c = let h = c.requires.plate in subst InRange (sym c.mark-2.ensures.placed) (mark_in_range h _)
+side-requires-clause-in_range_2 c = subst InRange (sym c.mark-2.ensures.placed) (mark_in_range c.requires.plate _)
 
 pub side-requires-clause-in_range_3 : goal.side-requires-clause-in_range_3
-side-requires-clause-in_range_3 c = let h = c.requires.plate in subst InRange (sym c.mark-3.ensures.placed) (mark_in_range h _)
+side-requires-clause-in_range_3 c = subst InRange (sym c.mark-3.ensures.placed) (mark_in_range c.requires.plate _)
 
 pub returns-then-is_on : goal.returns-then-is_on
 unfolding empty_triangle
-returns-then-is_on c = record { empty = sym (cond_yes _ _ (sym (side_on _ _ _) ∙ ap is_on (sym (c.side.ensures.sided ∙ (λ i. side (c.mark.ensures.placed i) (c.mark-2.ensures.placed i) (c.mark-3.ensures.placed i))) ∙ sym (back (record { sfits = c.side.type_inv }))) ∙ sym c.is_on.ensures.on ∙ c.if-is_on.true)) }
+returns-then-is_on c = record {
+  empty =
+      sym (cond_yes _ _ (sym (side_on _ _ _) ∙ ap is_on (sym
+      (c.side.ensures.sided ∙ (λ i. side (c.mark.ensures.placed i) (c.mark-2.ensures.placed i) (c.mark-3.ensures.placed i)))
+      ∙ sym (back (record { sfits = c.side.type_inv }))) ∙ sym c.is_on.ensures.on ∙ c.if-is_on.true));
+}
 
 pub returns-then-not-is_empty_edge : goal.returns-then-not-is_empty_edge
 unfolding empty_triangle
-returns-then-not-is_empty_edge c = record { empty = sym (cond_no _ _ (sym (side_on _ _ _) ∙ ap is_on (sym (c.side.ensures.sided ∙ (λ i. side (c.mark.ensures.placed i) (c.mark-2.ensures.placed i) (c.mark-3.ensures.placed i))) ∙ sym (back (record { sfits = c.side.type_inv }))) ∙ sym c.is_on.ensures.on ∙ c.if-is_on.false) ∙ cond_no _ _ (sym c.is_empty_edge.ensures.empty ∙ not-true _ c.if-not-is_empty_edge.true-raw)) }
+returns-then-not-is_empty_edge c = record {
+  empty =
+      sym (cond_no _ _ (sym (side_on _ _ _) ∙ ap is_on (sym
+      (c.side.ensures.sided ∙ (λ i. side (c.mark.ensures.placed i) (c.mark-2.ensures.placed i) (c.mark-3.ensures.placed i)))
+      ∙ sym (back (record { sfits = c.side.type_inv }))) ∙ sym c.is_on.ensures.on ∙ c.if-is_on.false) ∙ cond_no _
+      _ (sym c.is_empty_edge.ensures.empty ∙ not-true _ c.if-not-is_empty_edge.true-raw));
+}
 
 pub returns-then-not-is_empty_edge-2 : goal.returns-then-not-is_empty_edge-2
 unfolding empty_triangle
-returns-then-not-is_empty_edge-2 c = record { empty = sym (cond_no _ _ (sym (side_on _ _ _) ∙ ap is_on (sym (c.side.ensures.sided ∙ (λ i. side (c.mark.ensures.placed i) (c.mark-2.ensures.placed i) (c.mark-3.ensures.placed i))) ∙ sym (back (record { sfits = c.side.type_inv }))) ∙ sym c.is_on.ensures.on ∙ c.if-is_on.false) ∙ cond_yes _ _ (sym c.is_empty_edge.ensures.empty ∙ not-false _ c.if-not-is_empty_edge.false-raw) ∙ cond_no _ _ (sym c.is_empty_edge-2.ensures.empty ∙ not-true _ c.if-not-is_empty_edge-2.true-raw)) }
+returns-then-not-is_empty_edge-2 c = record {
+  empty =
+      sym (cond_no _ _ (sym (side_on _ _ _) ∙ ap is_on (sym
+      (c.side.ensures.sided ∙ (λ i. side (c.mark.ensures.placed i) (c.mark-2.ensures.placed i) (c.mark-3.ensures.placed i)))
+      ∙ sym (back (record { sfits = c.side.type_inv }))) ∙ sym c.is_on.ensures.on ∙ c.if-is_on.false) ∙ cond_yes _
+      _ (sym c.is_empty_edge.ensures.empty ∙ not-false _ c.if-not-is_empty_edge.false-raw) ∙ cond_no _ _ (sym
+      c.is_empty_edge-2.ensures.empty ∙ not-true _ c.if-not-is_empty_edge-2.true-raw));
+}
 
 pub returns-then-not-is_empty_edge-3 : goal.returns-then-not-is_empty_edge-3
 unfolding empty_triangle
-returns-then-not-is_empty_edge-3 c = record { empty = sym (cond_no _ _ (sym (side_on _ _ _) ∙ ap is_on (sym (c.side.ensures.sided ∙ (λ i. side (c.mark.ensures.placed i) (c.mark-2.ensures.placed i) (c.mark-3.ensures.placed i))) ∙ sym (back (record { sfits = c.side.type_inv }))) ∙ sym c.is_on.ensures.on ∙ c.if-is_on.false) ∙ cond_yes _ _ (sym c.is_empty_edge.ensures.empty ∙ not-false _ c.if-not-is_empty_edge.false-raw) ∙ cond_yes _ _ (sym c.is_empty_edge-2.ensures.empty ∙ not-false _ c.if-not-is_empty_edge-2.false-raw) ∙ cond_no _ _ (sym c.is_empty_edge-3.ensures.empty ∙ not-true _ c.if-not-is_empty_edge-3.true-raw)) }
+returns-then-not-is_empty_edge-3 c = record {
+  empty =
+      sym (cond_no _ _ (sym (side_on _ _ _) ∙ ap is_on (sym
+      (c.side.ensures.sided ∙ (λ i. side (c.mark.ensures.placed i) (c.mark-2.ensures.placed i) (c.mark-3.ensures.placed i)))
+      ∙ sym (back (record { sfits = c.side.type_inv }))) ∙ sym c.is_on.ensures.on ∙ c.if-is_on.false) ∙ cond_yes _
+      _ (sym c.is_empty_edge.ensures.empty ∙ not-false _ c.if-not-is_empty_edge.false-raw) ∙ cond_yes _ _ (sym
+      c.is_empty_edge-2.ensures.empty ∙ not-false _ c.if-not-is_empty_edge-2.false-raw) ∙ cond_no _ _ (sym
+      c.is_empty_edge-3.ensures.empty ∙ not-true _ c.if-not-is_empty_edge-3.true-raw));
+}
 
 pub returns : goal.returns
 unfolding empty_triangle
-returns c = record { empty = c.is_hollow.ensures.hollow ∙ sym (cond_no _ _ (sym (side_on _ _ _) ∙ ap is_on (sym (c.side.ensures.sided ∙ (λ i. side (c.mark.ensures.placed i) (c.mark-2.ensures.placed i) (c.mark-3.ensures.placed i))) ∙ sym (back (record { sfits = c.side.type_inv }))) ∙ sym c.is_on.ensures.on ∙ c.if-is_on.false) ∙ cond_yes _ _ (sym c.is_empty_edge.ensures.empty ∙ not-false _ c.if-not-is_empty_edge.false-raw) ∙ cond_yes _ _ (sym c.is_empty_edge-2.ensures.empty ∙ not-false _ c.if-not-is_empty_edge-2.false-raw) ∙ cond_yes _ _ (sym c.is_empty_edge-3.ensures.empty ∙ not-false _ c.if-not-is_empty_edge-3.false-raw)) }
+returns c = record {
+  empty =
+      c.is_hollow.ensures.hollow ∙
+      sym (cond_no _ _ (sym (side_on _ _ _) ∙ ap is_on (sym
+      (c.side.ensures.sided ∙ (λ i. side (c.mark.ensures.placed i) (c.mark-2.ensures.placed i) (c.mark-3.ensures.placed i)))
+      ∙ sym (back (record { sfits = c.side.type_inv }))) ∙ sym c.is_on.ensures.on ∙ c.if-is_on.false) ∙
+      cond_yes _ _ (sym c.is_empty_edge.ensures.empty ∙ not-false _ c.if-not-is_empty_edge.false-raw) ∙
+      cond_yes _ _ (sym c.is_empty_edge-2.ensures.empty ∙ not-false _ c.if-not-is_empty_edge-2.false-raw) ∙
+      cond_yes _ _ (sym c.is_empty_edge-3.ensures.empty ∙ not-false _ c.if-not-is_empty_edge-3.false-raw));
+}

@@ -1,14 +1,10 @@
 -- `triangle::is_hollow` meets its contract. The invariant: none of the marks passed lies inside. Assumes nothing.
-use mathlib.Core.Path.{◌≡◌, sym, ◌∙◌, ap, subst}
-use mathlib.Core.Bool.{true, not}
+use mathlib.Core.Path.{◌≡◌}
+use mathlib.Core.Bool.{true}
 use Prim.Native.Nat.{◌-◌, ◌≤◌}
-use native.Mathlib.Omega.{arith}
 use Rattle.plane.specs.Numbers.{all_to}
-use Rattle.plane.specs.Marks.{count, InRange}
-use Rattle.plane.specs.Triangle.{inside, outside, hollow}
-use Rattle.plane.proofs.Laws.Numbers.{all_none, all_more, all_no, all_end}
-use Rattle.plane.proofs.Laws.Bounds.{mark_in_range}
-use Rattle.std.proofs.Common.{rules}
+use Rattle.plane.specs.Marks.{count}
+use Rattle.plane.specs.Triangle.{outside}
 use Rattle.plane.proofs.triangle.is_hollow.Given as goal
 
 abbrev pub invariant-loop-k : goal.invariant-loop-k

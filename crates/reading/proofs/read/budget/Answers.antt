@@ -4,7 +4,6 @@ use mathlib.Core.Bool.{false}
 use Rattle.plane.proofs.Laws.Tells.{cond_yes, cond_no}
 use Rattle.reading.specs.Text.{dash, is_only}
 use Rattle.reading.specs.Read.{is_budget, budget_of}
-use Rattle.std.proofs.Common.{rules}
 use Rattle.reading.proofs.read.budget.Goals as goal
 use Rattle.reading.proofs.read.budget.Goals.{Else-is_only}
 
@@ -24,7 +23,8 @@ number-requires-clause-part c = c.requires.part
 
 pub number-requires-clause-e_value : goal.number-requires-clause-e_value
 unfolding is_budget
-number-requires-clause-e_value c = sym (cond_no _ _ (plain (goal.at.number-requires-clause-e_value c).Else-is_only)) ∙ c.requires.e_value
+number-requires-clause-e_value c =
+    sym (cond_no _ _ (plain (goal.at.number-requires-clause-e_value c).Else-is_only)) ∙ c.requires.e_value
 
 pub returns : goal.returns
 unfolding budget_of

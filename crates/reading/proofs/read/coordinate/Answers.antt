@@ -12,7 +12,6 @@ use Rattle.plane.proofs.Laws.Bounds.{rd, back}
 use Rattle.plane.proofs.Laws.Tells.{cond_yes, cond_no}
 use Rattle.reading.specs.Text.{dash, starts_with, is_number, coordinate_of}
 use Rattle.reading.proofs.Text.{part_next, starts_some, dash_number, plain_number, number_wider, number_below}
-use Rattle.std.proofs.Common.{rules}
 use Rattle.reading.proofs.read.coordinate.Goals as goal
 use Rattle.reading.proofs.read.coordinate.Goals.{After-number, After-number-2, Else-starts_with, Then-starts_with}
 
@@ -47,30 +46,57 @@ below-2 : (c : After-number-2) → is_number 7 c.args.text.now c.args.a c.args.e
 below-2 c h = subst (λ (n : ℕ). n < 10000000) (sym c.number-2.ensures.valued) (number_below _ _ _ 7 h)
 
 pub number-requires-clause-part : goal.number-requires-clause-part
-number-requires-clause-part c = part_next _ _ _ c.requires.part (starts_some _ _ _ _ (dashed (goal.at.number-requires-clause-part c).Then-starts_with))
+number-requires-clause-part c =
+    part_next _ _ _ c.requires.part
+    (starts_some _ _ _ _ (dashed (goal.at.number-requires-clause-part c).Then-starts_with))
 
 pub number-requires-clause-e_value : goal.number-requires-clause-e_value
-number-requires-clause-e_value c = number_wider _ _ _ 7 (rest (goal.at.number-requires-clause-e_value c).Then-starts_with) 9 (lit≤ tt)
+number-requires-clause-e_value c =
+    number_wider _ _ _ 7 (rest (goal.at.number-requires-clause-e_value c).Then-starts_with) 9 (lit≤ tt)
 
 pub overflow_cast-result : goal.overflow_cast-result
-overflow_cast-result c = record { sfits = omega (arith, below (goal.at.overflow_cast-result c).After-number (rest (goal.at.overflow_cast-result c).Then-starts_with)) }
+overflow_cast-result c = record {
+  sfits =
+      omega
+      (arith, below (goal.at.overflow_cast-result c).After-number (rest (goal.at.overflow_cast-result c).Then-starts_with));
+}
 
 pub overflow_sub-result : goal.overflow_sub-result
-overflow_sub-result c = subst (SFits w32) (sym (minus _ (below (goal.at.overflow_sub-result c).After-number (rest (goal.at.overflow_sub-result c).Then-starts_with)))) (minus-fits _ (below (goal.at.overflow_sub-result c).After-number (rest (goal.at.overflow_sub-result c).Then-starts_with)))
+overflow_sub-result c =
+    subst (SFits w32)
+    (sym (minus _ (below (goal.at.overflow_sub-result c).After-number (rest (goal.at.overflow_sub-result c).Then-starts_with))))
+    (minus-fits _ (below (goal.at.overflow_sub-result c).After-number (rest (goal.at.overflow_sub-result c).Then-starts_with)))
 
 pub returns-then-starts_with : goal.returns-then-starts_with
 unfolding coordinate_of
-returns-then-starts_with c = record { valued = ap rd (minus _ (below (goal.at.returns-then-starts_with c).After-number (rest (goal.at.returns-then-starts_with c).Then-starts_with))) ∙ back (minus-fits _ (below (goal.at.returns-then-starts_with c).After-number (rest (goal.at.returns-then-starts_with c).Then-starts_with))) ∙ ap (λ (n : ℕ). neg_ℤ (pos n)) c.number.ensures.valued ∙ sym (cond_yes _ _ (dashed (goal.at.returns-then-starts_with c).Then-starts_with)) }
+returns-then-starts_with c = record {
+  valued =
+      ap rd
+      (minus _ (below (goal.at.returns-then-starts_with c).After-number (rest (goal.at.returns-then-starts_with c).Then-starts_with))) ∙
+      back
+      (minus-fits _ (below (goal.at.returns-then-starts_with c).After-number (rest (goal.at.returns-then-starts_with c).Then-starts_with))) ∙
+      ap (λ (n : ℕ). neg_ℤ (pos n)) c.number.ensures.valued ∙
+      sym (cond_yes _ _ (dashed (goal.at.returns-then-starts_with c).Then-starts_with));
+}
 
 pub number-requires-2-clause-part : goal.number-requires-2-clause-part
 number-requires-2-clause-part c = c.requires.part
 
 pub number-requires-2-clause-e_value : goal.number-requires-2-clause-e_value
-number-requires-2-clause-e_value c = number_wider _ _ _ 7 (whole (goal.at.number-requires-2-clause-e_value c).Else-starts_with) 9 (lit≤ tt)
+number-requires-2-clause-e_value c =
+    number_wider _ _ _ 7 (whole (goal.at.number-requires-2-clause-e_value c).Else-starts_with) 9 (lit≤ tt)
 
 pub overflow_cast-result-2 : goal.overflow_cast-result-2
-overflow_cast-result-2 c = record { sfits = omega (arith, below-2 (goal.at.overflow_cast-result-2 c).After-number-2 (whole (goal.at.overflow_cast-result-2 c).Else-starts_with)) }
+overflow_cast-result-2 c = record {
+  sfits =
+      omega
+      (arith, below-2 (goal.at.overflow_cast-result-2 c).After-number-2 (whole (goal.at.overflow_cast-result-2 c).Else-starts_with));
+}
 
 pub returns : goal.returns
 unfolding coordinate_of
-returns c = record { valued = reads_plain _ (below-2 (goal.at.returns c).After-number-2 (whole (goal.at.returns c).Else-starts_with)) ∙ ap pos c.number-2.ensures.valued ∙ sym (cond_no _ _ (plain (goal.at.returns c).Else-starts_with)) }
+returns c = record {
+  valued =
+      reads_plain _ (below-2 (goal.at.returns c).After-number-2 (whole (goal.at.returns c).Else-starts_with)) ∙
+      ap pos c.number-2.ensures.valued ∙ sym (cond_no _ _ (plain (goal.at.returns c).Else-starts_with));
+}

@@ -1,14 +1,13 @@
 -- `read::first_bad` meets its contract. The invariant: the place is where line n starts, and the lines passed are good. Assumes nothing.
 use mathlib.Core.Path.{◌≡◌, sym, ap, ◌∙◌, subst}
-use mathlib.Core.Bool.{false}
-use Prim.Native.Nat.{ℕ, ◌+◌, ◌-◌, ◌≤◌, ◌<◌}
+use Prim.Native.Nat.{ℕ, ◌+◌, ◌≤◌, ◌<◌}
 use native.Mathlib.Omega.{arith}
 use borrow.Author.Count.{below_none, below_more}
 use borrow.Author.Tests.{not-true, not-false}
 use lib.ListN.{length}
 use Rattle.plane.proofs.Laws.Numbers.{first_here}
 use Rattle.reading.specs.Text.{Part, feed, place_of}
-use Rattle.reading.specs.Read.{line_start, is_good, is_bad, first_bad}
+use Rattle.reading.specs.Read.{line_start, is_good, first_bad}
 use Rattle.reading.proofs.Text.{place_part}
 use Rattle.reading.proofs.Lines.{first_start, next_start, bad_here, bad_not, good_at, good_ended, none_bad}
 use Rattle.std.proofs.Common.{rules}
@@ -40,7 +39,12 @@ is_good-requires c = line (goal.at.is_good-requires c).After-place_of-e
 
 pub returns-then-not-is_good : goal.returns-then-not-is_good
 unfolding first_bad
-returns-then-not-is_good c = record { first = first_here _ _ _ (omega arith) c.loop-at.invariant.3 (bad_here _ _ (starts (goal.at.returns-then-not-is_good c).In-loop-at) (sym (asked (goal.at.returns-then-not-is_good c).After-is_good) ∙ not-true _ c.if-not-is_good.true-raw)) }
+returns-then-not-is_good c = record {
+  first =
+      first_here _ _ _ (omega arith) c.loop-at.invariant.3 (bad_here _ _
+      (starts (goal.at.returns-then-not-is_good c).In-loop-at)
+      (sym (asked (goal.at.returns-then-not-is_good c).After-is_good) ∙ not-true _ c.if-not-is_good.true-raw));
+}
 
 pub overflow_add-at : goal.overflow_add-at
 overflow_add-at c = omega (arith, ended (goal.at.overflow_add-at c).Else-not-is_good)
@@ -52,12 +56,19 @@ pub loop-at-smaller : goal.loop-at-smaller
 loop-at-smaller c = omega (arith, (line (goal.at.loop-at-smaller c).After-place_of-e).ordered)
 
 pub loop-at-preserved : goal.loop-at-preserved
-loop-at-preserved c = let l = c.loop-at in (
-  ap (λ (e : ℕ). e + 1) (c.place_of-e.ensures.placed ∙ ap (place_of feed _) l.invariant.0) ∙ sym (next_start _ _),
-  omega (arith, (line (goal.at.loop-at-preserved c).After-place_of-e).ordered),
-  omega (arith, ended (goal.at.loop-at-preserved c).Else-not-is_good),
-  below_more _ _ l.invariant.3 (bad_not _ _ (starts (goal.at.loop-at-preserved c).In-loop-at) (sym (asked (goal.at.loop-at-preserved c).After-is_good) ∙ not-false _ c.if-not-is_good.false-raw)),
-)
+loop-at-preserved c =
+    let l = c.loop-at in (
+      ap (λ (e : ℕ). e + 1) (c.place_of-e.ensures.placed ∙ ap (place_of feed _) l.invariant.0) ∙ sym (next_start _ _),
+      omega (arith, (line (goal.at.loop-at-preserved c).After-place_of-e).ordered),
+      omega (arith, ended (goal.at.loop-at-preserved c).Else-not-is_good),
+      below_more _ _ l.invariant.3 (bad_not _ _ (starts (goal.at.loop-at-preserved c).In-loop-at)
+          (sym (asked (goal.at.loop-at-preserved c).After-is_good) ∙ not-false _ c.if-not-is_good.false-raw)),
+    )
 
 pub returns : goal.returns
-returns c = record { first = none_bad _ c.loop-at.n (subst (λ (a : ℕ). length c.args.text.now ≤ a) c.loop-at.invariant.0 c.loop-at-test.false) c.loop-at.invariant.3 }
+returns c = record {
+  first =
+      none_bad _ c.loop-at.n
+      (subst (λ (a : ℕ). length c.args.text.now ≤ a) c.loop-at.invariant.0 c.loop-at-test.false)
+      c.loop-at.invariant.3;
+}

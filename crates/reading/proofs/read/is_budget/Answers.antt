@@ -2,7 +2,6 @@
 use mathlib.Core.Path.{sym, ◌∙◌}
 use Rattle.plane.proofs.Laws.Tells.{cond_yes, cond_no}
 use Rattle.reading.specs.Read.{is_budget}
-use Rattle.std.proofs.Common.{rules}
 use Rattle.reading.proofs.read.is_budget.Goals as goal
 
 pub is_only-requires : goal.is_only-requires

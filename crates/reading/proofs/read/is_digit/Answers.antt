@@ -3,7 +3,6 @@ use mathlib.Core.Path.{sym}
 use borrow.Author.Tests.{lt-ltb, le-ltb}
 use Rattle.plane.proofs.Laws.Tells.{cond_yes, cond_no}
 use Rattle.reading.specs.Text.{is_digit}
-use Rattle.std.proofs.Common.{rules}
 use Rattle.reading.proofs.read.is_digit.Goals as goal
 
 pub returns-then-b-lt48 : goal.returns-then-b-lt48

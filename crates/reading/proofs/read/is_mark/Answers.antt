@@ -9,7 +9,6 @@ use Rattle.plane.proofs.Laws.Tells.{cond_yes, cond_no}
 use Rattle.reading.specs.Text.{Part, space, place_of}
 use Rattle.reading.specs.Read.{is_mark_at}
 use Rattle.reading.proofs.Text.{place_part}
-use Rattle.std.proofs.Common.{rules}
 use Rattle.reading.proofs.read.is_mark.Goals as goal
 use Rattle.reading.proofs.read.is_mark.Goals.{After-place_of-s, After-shared_slice_known-1}
 
@@ -25,14 +24,23 @@ place_of-s-requires c = within_text (goal.at.place_of-s-requires c).After-shared
 
 pub returns-then-e-s : goal.returns-then-e-s
 unfolding is_mark_at
-returns-then-e-s c = record { mark = spaced (goal.at.returns-then-e-s c).After-place_of-s _ (sym (cond_no _ _ (le-ltb _ _ c.if-e-s.true))) }
+returns-then-e-s c = record {
+  mark = spaced (goal.at.returns-then-e-s c).After-place_of-s _ (sym (cond_no _ _ (le-ltb _ _ c.if-e-s.true)));
+}
 
 pub is_coordinate-requires : goal.is_coordinate-requires
-is_coordinate-requires c = subst (Part _ _) (sym c.place_of-s.ensures.placed) (place_part _ _ _ (within_text (goal.at.is_coordinate-requires c).After-shared_slice_known-1))
+is_coordinate-requires c =
+    subst (Part _ _) (sym c.place_of-s.ensures.placed)
+    (place_part _ _ _ (within_text (goal.at.is_coordinate-requires c).After-shared_slice_known-1))
 
 pub returns-then-not-is_coordinate : goal.returns-then-not-is_coordinate
 unfolding is_mark_at
-returns-then-not-is_coordinate c = record { mark = spaced (goal.at.returns-then-not-is_coordinate c).After-place_of-s _ (sym (cond_yes _ _ (lt-ltb _ _ c.if-e-s.false) ∙ cond_no _ _ (sym c.is_coordinate.ensures.coordinate ∙ not-true _ c.if-not-is_coordinate.true-raw))) }
+returns-then-not-is_coordinate c = record {
+  mark =
+      spaced (goal.at.returns-then-not-is_coordinate c).After-place_of-s _ (sym (cond_yes _ _
+      (lt-ltb _ _ c.if-e-s.false) ∙ cond_no _ _
+      (sym c.is_coordinate.ensures.coordinate ∙ not-true _ c.if-not-is_coordinate.true-raw)));
+}
 
 pub overflow_add-s : goal.overflow_add-s
 overflow_add-s c = omega arith
@@ -42,4 +50,9 @@ is_coordinate-requires-2 c = record { ordered = omega arith; within = omega arit
 
 pub returns : goal.returns
 unfolding is_mark_at
-returns c = record { mark = spaced (goal.at.returns c).After-place_of-s _ (c.is_coordinate-2.ensures.coordinate ∙ sym (cond_yes _ _ (lt-ltb _ _ c.if-e-s.false) ∙ cond_yes _ _ (sym c.is_coordinate.ensures.coordinate ∙ not-false _ c.if-not-is_coordinate.false-raw))) }
+returns c = record {
+  mark =
+      spaced (goal.at.returns c).After-place_of-s _ (c.is_coordinate-2.ensures.coordinate ∙ sym (cond_yes _ _
+      (lt-ltb _ _ c.if-e-s.false) ∙ cond_yes _ _
+      (sym c.is_coordinate.ensures.coordinate ∙ not-false _ c.if-not-is_coordinate.false-raw)));
+}

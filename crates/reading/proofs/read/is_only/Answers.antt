@@ -3,7 +3,6 @@ use mathlib.Core.Path.{sym}
 use borrow.Author.Tests.{eq-eqb, ne_eqb}
 use Rattle.plane.proofs.Laws.Tells.{cond_yes, cond_no}
 use Rattle.reading.specs.Text.{is_only}
-use Rattle.std.proofs.Common.{rules}
 use Rattle.reading.proofs.read.is_only.Goals as goal
 
 pub returns-then-e-a : goal.returns-then-e-a

@@ -1,5 +1,5 @@
 -- `read::number` meets its contract. The invariant: v is what the digits passed spell, so that it stays below 10 to their number. Assumes nothing.
-use mathlib.Core.Path.{◌≡◌, refl, ap, ◌∙◌}
+use mathlib.Core.Path.{refl, ap, ◌∙◌}
 use Prim.Native.Nat.{ℕ, ◌+◌, ◌*◌, ◌-◌, ◌≤◌, ◌<◌}
 use native.Mathlib.Numerals.{add-one}
 use native.Mathlib.Omega.{arith}
@@ -41,7 +41,9 @@ pub overflow_cast-v : goal.overflow_cast-v
 overflow_cast-v c = omega (arith, (next (goal.at.overflow_cast-v c).In-loop-k).1)
 
 pub overflow_add-v-in-loop-k : goal.overflow_add-v-in-loop-k
-overflow_add-v-in-loop-k c = omega (arith, passed (goal.at.overflow_add-v-in-loop-k c).In-loop-k, (next (goal.at.overflow_add-v-in-loop-k c).In-loop-k).1)
+overflow_add-v-in-loop-k c =
+    omega
+    (arith, passed (goal.at.overflow_add-v-in-loop-k c).In-loop-k, (next (goal.at.overflow_add-v-in-loop-k c).In-loop-k).1)
 
 pub overflow_add-k : goal.overflow_add-k
 overflow_add-k c = omega arith
@@ -51,7 +53,11 @@ loop-k-smaller c = omega arith
 
 pub loop-k-preserved : goal.loop-k-preserved
 unfolding spelled
-loop-k-preserved c = (omega arith, rw add-one (ap (λ (v : ℕ). v * 10 + (byte_at c.args.text.now (c.args.a + c.loop-k.k) - 48)) c.loop-k.invariant.1))
+loop-k-preserved c = (
+  omega arith,
+  rw add-one
+      (ap (λ (v : ℕ). v * 10 + (byte_at c.args.text.now (c.args.a + c.loop-k.k) - 48)) c.loop-k.invariant.1),
+)
 
 pub returns : goal.returns
 returns c = record { valued = c.loop-k.invariant.1 ∙ ap (spelled c.args.text.now c.args.a) (omega arith) }

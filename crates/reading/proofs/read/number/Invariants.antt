@@ -1,11 +1,7 @@
 -- `read::number` meets its contract. The invariant: v is what the digits passed spell, so that it stays below 10 to their number. Assumes nothing.
-use mathlib.Core.Path.{◌≡◌, refl, ap, ◌∙◌}
-use Prim.Native.Nat.{ℕ, ◌+◌, ◌*◌, ◌-◌, ◌≤◌, ◌<◌}
-use native.Mathlib.Numerals.{add-one}
-use native.Mathlib.Omega.{arith}
-use Rattle.reading.specs.Text.{byte_at, spelled}
-use Rattle.reading.proofs.Text.{digit_range, number-length, number_digit, value_small}
-use Rattle.std.proofs.Common.{rules}
+use mathlib.Core.Path.{◌≡◌}
+use Prim.Native.Nat.{◌-◌, ◌≤◌}
+use Rattle.reading.specs.Text.{spelled}
 use Rattle.reading.proofs.read.number.Given as goal
 
 abbrev pub invariant-loop-k : goal.invariant-loop-k

@@ -2,13 +2,8 @@
 use mathlib.Core.Path.{◌≡◌}
 use mathlib.Core.Bool.{false}
 use Prim.Native.Nat.{ℕ, ◌-◌, ◌≤◌, ◌<◌}
-use native.Mathlib.Omega.{arith}
-use borrow.Author.Count.{below_more}
 use lib.ListN.{length}
-use Rattle.plane.proofs.Laws.Numbers.{first_here, first_none}
-use Rattle.reading.specs.Text.{stands_at, place_of}
-use Rattle.reading.proofs.Text.{stands_before, stands_here, stands_not}
-use Rattle.std.proofs.Common.{rules}
+use Rattle.reading.specs.Text.{stands_at}
 use Rattle.reading.proofs.read.place_of.Given as goal
 
 abbrev pub invariant-loop-i : goal.invariant-loop-i

@@ -23,30 +23,42 @@ readable c =
     }
 
 pub returns-then-text-gt4096-clause-answered : goal.returns-then-text-gt4096-clause-answered
-returns-then-text-gt4096-clause-answered c = let e = too_long _ c.if-text-gt4096.true in e
+returns-then-text-gt4096-clause-answered c =
+    let e = too_long _ c.if-text-gt4096.true in
+    e
 
 pub returns-then-text-gt4096-clause-stored : goal.returns-then-text-gt4096-clause-stored
-returns-then-text-gt4096-clause-stored c = let e = too_long _ c.if-text-gt4096.true in kept _ _ _ e
+returns-then-text-gt4096-clause-stored c =
+    let e = too_long _ c.if-text-gt4096.true in
+    kept _ _ _ e
 
 pub returns-then-text-eq0-clause-answered : goal.returns-then-text-eq0-clause-answered
-returns-then-text-eq0-clause-answered c = let e = no_text _ c.if-text-eq0.true in e
+returns-then-text-eq0-clause-answered c =
+    let e = no_text _ c.if-text-eq0.true in
+    e
 
 pub returns-then-text-eq0-clause-stored : goal.returns-then-text-eq0-clause-stored
-returns-then-text-eq0-clause-stored c = let e = no_text _ c.if-text-eq0.true in kept _ _ _ e
+returns-then-text-eq0-clause-stored c =
+    let e = no_text _ c.if-text-eq0.true in
+    kept _ _ _ e
 
 pub returns-then-bad-text-clause-answered : goal.returns-then-bad-text-clause-answered
-returns-then-bad-text-clause-answered c = let f = c.first_bad-bad.ensures.first in let e =
-    ap (λ (n : ℕ). Refused (n + 1)) f
-    ∙ bad_line _ c.if-text-gt4096.false c.if-text-eq0.false
-    (subst (λ (n : ℕ). n < length c.args.text.now) f c.if-bad-text.true)
-    in e
+returns-then-bad-text-clause-answered c =
+    let f = c.first_bad-bad.ensures.first in
+    let e =
+    ap (λ (n : ℕ). Refused (n + 1)) f ∙
+    bad_line _ c.if-text-gt4096.false c.if-text-eq0.false
+    (subst (λ (n : ℕ). n < length c.args.text.now) f c.if-bad-text.true) in
+    e
 
 pub returns-then-bad-text-clause-stored : goal.returns-then-bad-text-clause-stored
-returns-then-bad-text-clause-stored c = let f = c.first_bad-bad.ensures.first in let e =
-    ap (λ (n : ℕ). Refused (n + 1)) f
-    ∙ bad_line _ c.if-text-gt4096.false c.if-text-eq0.false
-    (subst (λ (n : ℕ). n < length c.args.text.now) f c.if-bad-text.true)
-    in kept _ _ _ e
+returns-then-bad-text-clause-stored c =
+    let f = c.first_bad-bad.ensures.first in
+    let e =
+    ap (λ (n : ℕ). Refused (n + 1)) f ∙
+    bad_line _ c.if-text-gt4096.false c.if-text-eq0.false
+    (subst (λ (n : ℕ). n < length c.args.text.now) f c.if-bad-text.true) in
+    kept _ _ _ e
 
 pub store-count-requires-clause-readable : goal.store-count-requires-clause-readable
 store-count-requires-clause-readable c = readable (goal.at.store-count-requires-clause-readable c).Else-bad-text
@@ -55,7 +67,8 @@ pub store-count-requires-clause-numbers_len : goal.store-count-requires-clause-n
 store-count-requires-clause-numbers_len c = c.requires
 
 pub budget-requires : goal.budget-requires
-budget-requires c = let r = readable (goal.at.budget-requires c).Else-bad-text in
+budget-requires c =
+    let r = readable (goal.at.budget-requires c).Else-bad-text in
     let t = c.args.text.now in
     record {
       part = subst (Part _ _) (sym c.place_of-e.ensures.placed) (place_part _ _ _ (search rules));
@@ -63,7 +76,15 @@ budget-requires c = let r = readable (goal.at.budget-requires c).Else-bad-text i
     }
 
 pub returns-clause-answered : goal.returns-clause-answered
-returns-clause-answered c = let t = c.args.text.now in let s = c.store-count.ensures in let g = good_text _ (readable (goal.at.returns-clause-answered c).Else-bad-text) in ap₂ Read (c.budget.ensures.valued ∙ ap (budget_of t 0) c.place_of-e.ensures.placed) s.counted ∙ g
+returns-clause-answered c =
+    let t = c.args.text.now in
+    let s = c.store-count.ensures in
+    let g = good_text _ (readable (goal.at.returns-clause-answered c).Else-bad-text) in
+    ap₂ Read (c.budget.ensures.valued ∙ ap (budget_of t 0) c.place_of-e.ensures.placed) s.counted ∙ g
 
 pub returns-clause-stored : goal.returns-clause-stored
-returns-clause-stored c = let t = c.args.text.now in let s = c.store-count.ensures in let g = good_text _ (readable (goal.at.returns-clause-stored c).Else-bad-text) in s.stored ∙ filled _ _ _ _ g
+returns-clause-stored c =
+    let t = c.args.text.now in
+    let s = c.store-count.ensures in
+    let g = good_text _ (readable (goal.at.returns-clause-stored c).Else-bad-text) in
+    s.stored ∙ filled _ _ _ _ g

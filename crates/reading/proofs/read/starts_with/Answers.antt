@@ -3,7 +3,6 @@ use mathlib.Core.Path.{sym}
 use borrow.Author.Tests.{lt-ltb, le-ltb}
 use Rattle.plane.proofs.Laws.Tells.{cond_yes, cond_no}
 use Rattle.reading.specs.Text.{starts_with}
-use Rattle.std.proofs.Common.{rules}
 use Rattle.reading.proofs.read.starts_with.Goals as goal
 
 pub returns-then-e-a : goal.returns-then-e-a

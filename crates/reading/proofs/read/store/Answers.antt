@@ -1,17 +1,15 @@
 -- `read::store` meets its contract. The invariant: the place is where line k + 1 starts, and the numbers of the first k marks
 -- stand at the list's start. A mark takes four bytes at least, so that 2,048 numbers are room enough. Assumes nothing.
 use mathlib.Core.Path.{◌≡◌, refl, sym, ap, ◌∙◌, subst}
-use mathlib.Core.Bool.{false}
 use mathlib.Core.List.{◌++◌}
-use Prim.Native.Nat.{ℕ, ◌+◌, ◌*◌, ◌-◌, ◌≤◌, ◌<◌}
+use Prim.Native.Nat.{ℕ, ◌+◌, ◌*◌, ◌≤◌, ◌<◌}
 use native.Mathlib.Omega.{arith}
 use borrow.Author.Count.{below_more}
 use lib.ListN.{length, drop, length-set}
 use Rattle.plane.proofs.Laws.Bounds.{back}
-use Rattle.reading.specs.Read.{line_start, is_over, mark_count, numbers_to, numbers_of}
+use Rattle.reading.specs.Read.{mark_count, numbers_to, numbers_of}
 use Rattle.reading.proofs.Lines.{second_start, over_no, first_there, first_ended}
 use Rattle.reading.proofs.Marks.{MarkLine, mark_line, marks_are, stored_mark}
-use Rattle.std.proofs.Common.{rules}
 use Rattle.reading.proofs.read.store.Goals as goal
 use Rattle.reading.proofs.read.store.Goals.{After-loop-at, After-place_of-at, After-place_of-e}
 
@@ -65,13 +63,17 @@ pub bounds-numbers-k : goal.bounds-numbers-k
 bounds-numbers-k c = omega (arith, room (goal.at.bounds-numbers-k c).After-place_of-e)
 
 pub overflow_add-s : goal.overflow_add-s
-overflow_add-s c = omega (arith, (line (goal.at.overflow_add-s c).After-place_of-e).right.ordered, (line (goal.at.overflow_add-s c).After-place_of-e).right.within)
+overflow_add-s c =
+    omega
+    (arith, (line (goal.at.overflow_add-s c).After-place_of-e).right.ordered, (line (goal.at.overflow_add-s c).After-place_of-e).right.within)
 
 pub coordinate-requires-in-loop-at-clause-part : goal.coordinate-requires-in-loop-at-clause-part
-coordinate-requires-in-loop-at-clause-part c = (line (goal.at.coordinate-requires-in-loop-at-clause-part c).After-place_of-e).right
+coordinate-requires-in-loop-at-clause-part c =
+    (line (goal.at.coordinate-requires-in-loop-at-clause-part c).After-place_of-e).right
 
 pub coordinate-requires-in-loop-at-clause-e_value : goal.coordinate-requires-in-loop-at-clause-e_value
-coordinate-requires-in-loop-at-clause-e_value c = (line (goal.at.coordinate-requires-in-loop-at-clause-e_value c).After-place_of-e).y_good
+coordinate-requires-in-loop-at-clause-e_value c =
+    (line (goal.at.coordinate-requires-in-loop-at-clause-e_value c).After-place_of-e).y_good
 
 pub overflow_mul-k : goal.overflow_mul-k
 overflow_mul-k c = omega (arith, room (goal.at.overflow_mul-k c).After-place_of-e)
@@ -80,10 +82,12 @@ pub overflow_add-k : goal.overflow_add-k
 overflow_add-k c = omega (arith, room (goal.at.overflow_add-k c).After-place_of-e)
 
 pub offset_bounds-numbers-k-in-loop-at : goal.offset_bounds-numbers-k-in-loop-at
-offset_bounds-numbers-k-in-loop-at c = omega (arith, room (goal.at.offset_bounds-numbers-k-in-loop-at c).After-place_of-e)
+offset_bounds-numbers-k-in-loop-at c =
+    omega (arith, room (goal.at.offset_bounds-numbers-k-in-loop-at c).After-place_of-e)
 
 pub bounds-numbers-k-in-loop-at : goal.bounds-numbers-k-in-loop-at
-bounds-numbers-k-in-loop-at c = simp length-set (omega (arith, room (goal.at.bounds-numbers-k-in-loop-at c).After-place_of-e))
+bounds-numbers-k-in-loop-at c =
+    simp length-set (omega (arith, room (goal.at.bounds-numbers-k-in-loop-at c).After-place_of-e))
 
 pub overflow_add-at-in-loop-at : goal.overflow_add-at-in-loop-at
 overflow_add-at-in-loop-at c = omega (arith, (line (goal.at.overflow_add-at-in-loop-at c).After-place_of-e).ended)
@@ -95,16 +99,19 @@ pub loop-at-smaller : goal.loop-at-smaller
 loop-at-smaller c = omega (arith, (line (goal.at.loop-at-smaller c).After-place_of-e).long)
 
 pub loop-at-preserved : goal.loop-at-preserved
-loop-at-preserved c = let l = c.loop-at in
+loop-at-preserved c =
+    let l = c.loop-at in
     let m = line (goal.at.loop-at-preserved c).After-place_of-e in (
       m.next,
       omega (arith, m.long),
       omega (arith, m.ended),
       simp length-set l.invariant.3,
-      stored_mark _ _ _ _ _ _ l.invariant.4 (subst (λ (n : ℕ). 2 * l.k + 2 ≤ n) l.invariant.3 (room (goal.at.loop-at-preserved c).After-place_of-e))
+      stored_mark _ _ _ _ _ _ l.invariant.4
+          (subst (λ (n : ℕ). 2 * l.k + 2 ≤ n) l.invariant.3 (room (goal.at.loop-at-preserved c).After-place_of-e))
           (back (record { sfits = c.coordinate.type_inv }) ∙ c.coordinate.ensures.valued ∙ m.x_is)
           (back (record { sfits = c.coordinate-in-loop-at.type_inv }) ∙ c.coordinate-in-loop-at.ensures.valued ∙ m.y_is),
-      below_more _ _ l.invariant.5 (over_no _ _ (subst (λ (a : ℕ). a < length c.args.text.now) l.invariant.0 c.loop-at-test.true)),
+      below_more _ _ l.invariant.5
+          (over_no _ _ (subst (λ (a : ℕ). a < length c.args.text.now) l.invariant.0 c.loop-at-test.true)),
     )
 
 pub overflow_mul-result : goal.overflow_mul-result
@@ -116,4 +123,7 @@ returns-clause-counted c = ap (λ (k : ℕ). 2 * k) (counted (goal.at.returns-cl
 
 pub returns-clause-stored : goal.returns-clause-stored
 unfolding numbers_of
-returns-clause-stored c = c.loop-at.invariant.4 ∙ ap (λ (k : ℕ). numbers_to c.args.text.now k ++ drop (2 * k) c.args.numbers.now) (counted (goal.at.returns-clause-stored c).After-loop-at)
+returns-clause-stored c =
+    c.loop-at.invariant.4 ∙
+    ap (λ (k : ℕ). numbers_to c.args.text.now k ++ drop (2 * k) c.args.numbers.now)
+    (counted (goal.at.returns-clause-stored c).After-loop-at)

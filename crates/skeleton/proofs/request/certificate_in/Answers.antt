@@ -8,7 +8,6 @@ use lib.IntN.{ℤ}
 use Rattle.plane.specs.Marks.{Plate, count}
 use Rattle.pairs.specs.Pairs.{pair_count}
 use Rattle.pairs.proofs.Laws.{pair_count_small}
-use Rattle.std.proofs.Common.{rules}
 use Rattle.skeleton.proofs.request.certificate_in.Goals as goal
 
 small : {m : List ℤ} {k : ℕ} → Plate m → k ≡ pair_count (count m) → k ≤ 8128

@@ -6,7 +6,6 @@ use lib.ListN.{length}
 use Rattle.masks.proofs.Laws.Table.{fill_start}
 use Rattle.skeleton.specs.Common.{common}
 use Rattle.skeleton.proofs.Common.{edges_long, common_long, common_clean, common_rows}
-use Rattle.std.proofs.Common.{rules}
 use Rattle.skeleton.proofs.request.certificate_with.Goals as goal
 
 pub mark_edges-requires-clause-plate : goal.mark_edges-requires-clause-plate
@@ -25,10 +24,14 @@ pub fill_rows-requires-clause-plate : goal.fill_rows-requires-clause-plate
 fill_rows-requires-clause-plate c = c.requires.plate
 
 pub fill_rows-requires-clause-st_len : goal.fill_rows-requires-clause-st_len
-fill_rows-requires-clause-st_len c = let e = c.keep_common.ensures.kept ∙ ap (λ (x : List ℕ). common x c.args.st.now) c.mark_edges.ensures.edges in common_long _ _ e c.requires.st_len
+fill_rows-requires-clause-st_len c =
+    let e = c.keep_common.ensures.kept ∙ ap (λ (x : List ℕ). common x c.args.st.now) c.mark_edges.ensures.edges in
+    common_long _ _ e c.requires.st_len
 
 pub fill_rows-requires-clause-clean : goal.fill_rows-requires-clause-clean
-fill_rows-requires-clause-clean c = let e = c.keep_common.ensures.kept ∙ ap (λ (x : List ℕ). common x c.args.st.now) c.mark_edges.ensures.edges in common_clean _ _ e c.requires.st_len
+fill_rows-requires-clause-clean c =
+    let e = c.keep_common.ensures.kept ∙ ap (λ (x : List ℕ). common x c.args.st.now) c.mark_edges.ensures.edges in
+    common_clean _ _ e c.requires.st_len
 
 pub fill_rows-requires-clause-d_value : goal.fill_rows-requires-clause-d_value
 fill_rows-requires-clause-d_value c = refl
@@ -40,7 +43,9 @@ pub first_certificate-requires-clause-table : goal.first_certificate-requires-cl
 first_certificate-requires-clause-table c = c.mark_edges.ensures.filled
 
 pub first_certificate-requires-clause-rows : goal.first_certificate-requires-clause-rows
-first_certificate-requires-clause-rows c = let e = c.keep_common.ensures.kept ∙ ap (λ (x : List ℕ). common x c.args.st.now) c.mark_edges.ensures.edges in common_rows _ _ e c.requires.st_len c.fill_rows.ensures.filled
+first_certificate-requires-clause-rows c =
+    let e = c.keep_common.ensures.kept ∙ ap (λ (x : List ℕ). common x c.args.st.now) c.mark_edges.ensures.edges in
+    common_rows _ _ e c.requires.st_len c.fill_rows.ensures.filled
 
 pub first_certificate-requires-clause-p_lt_q : goal.first_certificate-requires-clause-p_lt_q
 first_certificate-requires-clause-p_lt_q c = c.requires.a_lt_b

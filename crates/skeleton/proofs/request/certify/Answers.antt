@@ -5,14 +5,16 @@ use Rattle.certificates.specs.declared.certificate.Certificate.{Certificate}
 use Rattle.skeleton.specs.declared.request.Reply.TheVariants.{Certified}
 use Rattle.skeleton.specs.Answers.{answer_with}
 use Rattle.skeleton.proofs.Asked.{answer_blocked, answer_hull, answer_inner, inner_empty, apexes_apart}
-use Rattle.std.proofs.Common.{rules}
 use Rattle.skeleton.proofs.request.certify.Goals as goal
 
 pub kind_of-k-requires-clause-plate : goal.kind_of-k-requires-clause-plate
 kind_of-k-requires-clause-plate c = c.requires.plate
 
 pub kind_of-k-requires-clause-mark : goal.kind_of-k-requires-clause-mark
-kind_of-k-requires-clause-mark c = let h = c.requires in let u = c.requires.a_lt_b in omega arith
+kind_of-k-requires-clause-mark c =
+    let h = c.requires in
+    let u = c.requires.a_lt_b in
+    omega arith
 
 pub kind_of-k-requires-clause-mark_2 : goal.kind_of-k-requires-clause-mark_2
 kind_of-k-requires-clause-mark_2 c = c.requires.mark
@@ -33,21 +35,37 @@ pub certificate_in-c-requires-clause-b_value : goal.certificate_in-c-requires-cl
 certificate_in-c-requires-clause-b_value c = inner_empty _ _ _ (sym c.kind_of-k.ensures.kind ∙ c.in-Inner.is)
 
 pub certificate_of-x-requires-clause-apart : goal.certificate_of-x-requires-clause-apart
-certificate_of-x-requires-clause-apart c = (apexes_apart _ _ _ _ c.requires.plate.few c.requires.a_lt_b c.requires.mark (sym c.certificate_in-c.ensures.first ∙ c.in-Apexes.is)).0
+certificate_of-x-requires-clause-apart c =
+    (apexes_apart _ _ _ _ c.requires.plate.few c.requires.a_lt_b c.requires.mark (sym c.certificate_in-c.ensures.first ∙ c.in-Apexes.is)).0
 
 pub certificate_of-x-requires-clause-apart_2 : goal.certificate_of-x-requires-clause-apart_2
-certificate_of-x-requires-clause-apart_2 c = (apexes_apart _ _ _ _ c.requires.plate.few c.requires.a_lt_b c.requires.mark (sym c.certificate_in-c.ensures.first ∙ c.in-Apexes.is)).1
+certificate_of-x-requires-clause-apart_2 c =
+    (apexes_apart _ _ _ _ c.requires.plate.few c.requires.a_lt_b c.requires.mark (sym c.certificate_in-c.ensures.first ∙ c.in-Apexes.is)).1
 
 pub returns-in-Blocked : goal.returns-in-Blocked
-returns-in-Blocked c = record { answered = c.without.ensures.without ∙ sym (answer_blocked _ _ _ _ (sym c.kind_of-k.ensures.kind ∙ c.in-Blocked.is)) }
+returns-in-Blocked c = record {
+  answered = c.without.ensures.without ∙ sym (answer_blocked _ _ _ _ (sym c.kind_of-k.ensures.kind ∙ c.in-Blocked.is));
+}
 
 pub returns-in-Hull : goal.returns-in-Hull
-returns-in-Hull c = record { answered = c.without-in-Hull.ensures.without ∙ sym (answer_hull _ _ _ _ (sym c.kind_of-k.ensures.kind ∙ c.in-Hull.is)) }
+returns-in-Hull c = record {
+  answered = c.without-in-Hull.ensures.without ∙ sym (answer_hull _ _ _ _ (sym c.kind_of-k.ensures.kind ∙ c.in-Hull.is));
+}
 
 pub returns-in-Nothing : goal.returns-in-Nothing
 unfolding answer_with
-returns-in-Nothing c = record { answered = c.without-in-Nothing.ensures.without ∙ sym (answer_inner _ _ _ _ (sym c.kind_of-k.ensures.kind ∙ c.in-Inner.is) ∙ ap (answer_with c.args.a c.args.b) (sym c.certificate_in-c.ensures.first ∙ c.in-Nothing.is)) }
+returns-in-Nothing c = record {
+  answered =
+      c.without-in-Nothing.ensures.without ∙
+      sym (answer_inner _ _ _ _ (sym c.kind_of-k.ensures.kind ∙ c.in-Inner.is) ∙ ap
+      (answer_with c.args.a c.args.b) (sym c.certificate_in-c.ensures.first ∙ c.in-Nothing.is));
+}
 
 pub returns-in-Apexes : goal.returns-in-Apexes
 unfolding answer_with
-returns-in-Apexes c = record { answered = ap (λ (x : Certificate). record { reply = Certified; certificate = x }) c.certificate_of-x.ensures.kept ∙ sym (answer_inner _ _ _ _ (sym c.kind_of-k.ensures.kind ∙ c.in-Inner.is) ∙ ap (answer_with c.args.a c.args.b) (sym c.certificate_in-c.ensures.first ∙ c.in-Apexes.is)) }
+returns-in-Apexes c = record {
+  answered =
+      ap (λ (x : Certificate). record { reply = Certified; certificate = x }) c.certificate_of-x.ensures.kept ∙
+      sym (answer_inner _ _ _ _ (sym c.kind_of-k.ensures.kind ∙ c.in-Inner.is) ∙ ap
+      (answer_with c.args.a c.args.b) (sym c.certificate_in-c.ensures.first ∙ c.in-Apexes.is));
+}

@@ -4,16 +4,23 @@ use Prim.Native.Nat.{ℕ, ◌<◌, ◌≤◌}
 use borrow.Author.Tests.{lt-ltb, le-ltb}
 use Rattle.skeleton.specs.Answers.{pair_row}
 use Rattle.plane.proofs.Laws.Tells.{cond_yes, cond_no}
-use Rattle.std.proofs.Common.{rules}
 use Rattle.skeleton.proofs.request.check_pair.Goals as goal
 
 pub returns-then-b-count : goal.returns-then-b-count
 unfolding pair_row
-returns-then-b-count c = record { answered = sym (cond_yes _ _ (lt-ltb _ _ c.if-a-b.true) ∙ cond_yes _ _ (lt-ltb _ _ (subst (λ (k : ℕ). c.args.b < k) c.count.ensures.counted c.if-b-count.true))) }
+returns-then-b-count c = record {
+  answered =
+      sym (cond_yes _ _ (lt-ltb _ _ c.if-a-b.true) ∙ cond_yes _ _
+      (lt-ltb _ _ (subst (λ (k : ℕ). c.args.b < k) c.count.ensures.counted c.if-b-count.true)));
+}
 
 pub returns-else-b-count : goal.returns-else-b-count
 unfolding pair_row
-returns-else-b-count c = record { answered = sym (cond_yes _ _ (lt-ltb _ _ c.if-a-b.true) ∙ cond_no _ _ (le-ltb _ _ (subst (λ (k : ℕ). k ≤ c.args.b) c.count.ensures.counted c.if-b-count.false))) }
+returns-else-b-count c = record {
+  answered =
+      sym (cond_yes _ _ (lt-ltb _ _ c.if-a-b.true) ∙ cond_no _ _
+      (le-ltb _ _ (subst (λ (k : ℕ). k ≤ c.args.b) c.count.ensures.counted c.if-b-count.false)));
+}
 
 pub returns-else-a-b : goal.returns-else-a-b
 unfolding pair_row

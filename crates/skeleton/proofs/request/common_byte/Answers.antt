@@ -3,7 +3,6 @@ use mathlib.Core.Path.{sym}
 use borrow.Author.Tests.{eq-eqb, ne_eqb}
 use Rattle.skeleton.specs.Common.{common_byte}
 use Rattle.plane.proofs.Laws.Tells.{cond_yes, cond_no}
-use Rattle.std.proofs.Common.{rules}
 use Rattle.skeleton.proofs.request.common_byte.Goals as goal
 
 pub returns-then-y-eq0 : goal.returns-then-y-eq0

@@ -1,11 +1,7 @@
 -- `request::first_above` meets its contract. The invariant: the bytes passed are not above 2. Assumes nothing.
-use mathlib.Core.Path.{◌≡◌}
-use mathlib.Core.Bool.{false}
-use Prim.Native.Nat.{ℕ, ◌-◌, ◌≤◌, ◌<◌}
 use native.Mathlib.Omega.{arith}
 use borrow.Author.Tests.{lt-ltb, le-ltb}
 use borrow.Author.Count.{below_none, below_more}
-use lib.ListN.{length}
 use Rattle.skeleton.specs.Answers.{is_above, first_above}
 use Rattle.plane.proofs.Laws.Numbers.{first_here, first_none}
 use Rattle.std.proofs.Common.{rules}

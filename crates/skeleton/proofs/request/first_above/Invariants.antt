@@ -2,13 +2,8 @@
 use mathlib.Core.Path.{◌≡◌}
 use mathlib.Core.Bool.{false}
 use Prim.Native.Nat.{ℕ, ◌-◌, ◌≤◌, ◌<◌}
-use native.Mathlib.Omega.{arith}
-use borrow.Author.Tests.{lt-ltb, le-ltb}
-use borrow.Author.Count.{below_none, below_more}
 use lib.ListN.{length}
-use Rattle.skeleton.specs.Answers.{is_above, first_above}
-use Rattle.plane.proofs.Laws.Numbers.{first_here, first_none}
-use Rattle.std.proofs.Common.{rules}
+use Rattle.skeleton.specs.Answers.{is_above}
 use Rattle.skeleton.proofs.request.first_above.Given as goal
 
 abbrev pub invariant-loop-k : goal.invariant-loop-k

@@ -1,15 +1,14 @@
 -- `request::keep_common` meets its contract. The invariant: the bytes below i are the common ones. Assumes nothing.
-use mathlib.Core.Path.{refl, ap, ◌∙◌}
-use Prim.Native.Nat.{ℕ, ◌-◌, ◌≤◌}
-use native.Mathlib.Omega.{arith}
+use Prim.Native.Nat.{◌-◌, ◌≤◌}
 use lib.ListN.{length, get_or}
-use Rattle.skeleton.specs.Common.{common_byte, common}
-use Rattle.rounds.proofs.Filling.{Filling, filling_none, filling_next, filling_end}
-use Rattle.std.proofs.Common.{rules}
+use Rattle.skeleton.specs.Common.{common_byte}
+use Rattle.rounds.proofs.Filling.{Filling}
 use Rattle.skeleton.proofs.request.keep_common.Given as goal
 
 abbrev pub invariant-loop-i : goal.invariant-loop-i
-invariant-loop-i l = (l.i ≤ length l.initial.own) × Filling (λ j. common_byte (get_or l.initial.own j 0) (get_or l.st j 0)) l.i l.initial.own l.own
+invariant-loop-i l =
+    (l.i ≤ length l.initial.own) × Filling (λ j. common_byte (get_or l.initial.own j 0) (get_or l.st j 0)) l.i
+    l.initial.own l.own
 
 abbrev pub decreases-loop-i : goal.decreases-loop-i
 decreases-loop-i l = length l.initial.own - l.i

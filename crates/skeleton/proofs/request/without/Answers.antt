@@ -1,7 +1,6 @@
 -- `request::without` meets its contract. Assumes nothing.
 use mathlib.Core.Path.{refl}
 use Rattle.skeleton.specs.Answers.{without}
-use Rattle.std.proofs.Common.{rules}
 use Rattle.skeleton.proofs.request.without.Goals as goal
 
 pub returns : goal.returns

@@ -11,7 +11,6 @@ use Rattle.rounds.specs.Run.{as_final}
 use Rattle.rounds.proofs.Readiness.{clean_start}
 use Rattle.skeleton.proofs.Common.{edges_long}
 use Rattle.striking.specs.Search as striking
-use Rattle.std.proofs.Common.{rules}
 use Rattle.skeleton.proofs.search.search_plate.Goals as goal
 
 pub mark_edges-requires-clause-plate : goal.mark_edges-requires-clause-plate
@@ -41,15 +40,27 @@ fill_rows-requires-clause-d_value c = refl
 
 pub rounds-run-requires : goal.rounds-run-requires
 unfolding plate
-rounds-run-requires c = let e = c.mark_edges.ensures in record { accepted = c.requires.plate; long = ap length e.edges ∙ edges_long c.args.m.now; clean = subst (Clean _) (sym e.edges) (clean_start _); table = e.filled; rows = c.fill_rows.ensures.filled }
+rounds-run-requires c =
+    let e = c.mark_edges.ensures in
+    record {
+      accepted = c.requires.plate;
+      long = ap length e.edges ∙ edges_long c.args.m.now;
+      clean = subst (Clean _) (sym e.edges) (clean_start _);
+      table = e.filled;
+      rows = c.fill_rows.ensures.filled;
+    }
 
 pub finish-requires : goal.finish-requires
 finish-requires c = c.rounds-run.ensures.ready
 
 pub returns-clause-outcome : goal.returns-clause-outcome
 unfolding striking.search_result report run as_final
-returns-clause-outcome c = let e = c.rounds-run.ensures.searched ∙ ap (search_from (plate c.args.m.now) c.args.budget 0) c.mark_edges.ensures.edges in c.finish.ensures.outcome ∙ ap (λ (f : Final). told f.outcome f.examinations) e
+returns-clause-outcome c =
+    let e = c.rounds-run.ensures.searched ∙ ap (search_from (plate c.args.m.now) c.args.budget 0) c.mark_edges.ensures.edges in
+    c.finish.ensures.outcome ∙ ap (λ (f : Final). told f.outcome f.examinations) e
 
 pub returns-clause-status : goal.returns-clause-status
 unfolding striking.search_result report run as_final
-returns-clause-status c = let e = c.rounds-run.ensures.searched ∙ ap (search_from (plate c.args.m.now) c.args.budget 0) c.mark_edges.ensures.edges in c.finish.ensures.status ∙ ap (λ (f : Final). bytes_at (plate c.args.m.now) f.outcome f.rest) e
+returns-clause-status c =
+    let e = c.rounds-run.ensures.searched ∙ ap (search_from (plate c.args.m.now) c.args.budget 0) c.mark_edges.ensures.edges in
+    c.finish.ensures.status ∙ ap (λ (f : Final). bytes_at (plate c.args.m.now) f.outcome f.rest) e

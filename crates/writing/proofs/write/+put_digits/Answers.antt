@@ -1,6 +1,6 @@
 -- `write::put_digits` meets its contract. The measure is the number: the call is at its tenth, whose digits come before the last one.
 -- Assumes nothing.
-use Rattle.std.proofs.Common.{rules, sym, [], ◌∷◌, ◌%◌, arith}
+use Rattle.std.proofs.Common.{sym, [], ◌∷◌, ◌%◌, arith}
 use Rattle.writing.specs.Digits.{digit}
 use Rattle.writing.proofs.Digits.{digits_more, spelt_one, spelt_more}
 use Rattle.writing.proofs.Places.{room_first, room_is, room_rest, puts_is, puts_then}
@@ -15,7 +15,10 @@ returns-then-n-lt10 t c = record { put = puts_is (spelt_one c.args.n c.if-n-lt10
 
 -- ---- more digits
 pub put_digits-next-requires : goal.put_digits-next-requires
-put_digits-next-requires t c = (omega (arith, c.decreases), room_first (digit (c.args.n % 10) ∷ []) (room_is (digits_more c.args.n c.if-n-lt10.false) c.requires))
+put_digits-next-requires t c = (
+  omega (arith, c.decreases),
+  room_first (digit (c.args.n % 10) ∷ []) (room_is (digits_more c.args.n c.if-n-lt10.false) c.requires),
+)
 
 pub put_byte-requires-2 : goal.put_byte-requires-2
 put_byte-requires-2 t c =
@@ -25,4 +28,6 @@ put_byte-requires-2 t c =
 pub returns : goal.returns
 returns t c =
     let whole = spelt_more c.args.n c.if-n-lt10.false c.digit-2.ensures.spelt in
-    record { put = puts_is whole (puts_then (room_is (sym whole) c.requires) c.put_digits-next.ensures.put c.put_byte-2.ensures.put) }
+    record {
+      put = puts_is whole (puts_then (room_is (sym whole) c.requires) c.put_digits-next.ensures.put c.put_byte-2.ensures.put);
+    }

@@ -1,11 +1,9 @@
 -- `write::put_bytes` meets its contract. The loop's invariant: the first `i` bytes of the word are put. Assumes nothing.
 use mathlib.Core.Path.{◌≡◌, refl}
-use Prim.Native.Nat.{◌+◌, ◌≤◌, ◌-◌}
+use Prim.Native.Nat.{◌+◌}
 use native.Mathlib.Omega.{arith}
-use lib.ListN.{length, take, length-set}
-use Rattle.writing.specs.Listing.{Puts}
+use lib.ListN.{length, length-set}
 use Rattle.writing.proofs.Places.{puts_nothing, puts_more, puts_place, puts_all}
-use Rattle.std.proofs.Common.{rules}
 use Rattle.writing.proofs.write.put_bytes.Goals as goal
 use Rattle.writing.proofs.write.put_bytes.Goals.{At-loop-i}
 
@@ -32,8 +30,11 @@ pub loop-i-smaller : goal.loop-i-smaller
 loop-i-smaller c = omega arith
 
 pub loop-i-preserved : goal.loop-i-preserved
-loop-i-preserved c = let l = c.loop-i in
+loop-i-preserved c =
+    let l = c.loop-i in
     (omega arith, puts_more c.requires c.loop-i-test.true l.invariant.1, simp length-set l.invariant.2)
 
 pub returns : goal.returns
-returns c = let all : c.loop-i.i ≡ length c.args.word.now = omega arith in record { put = puts_all c.requires c.loop-i.invariant.1 all }
+returns c =
+    let all : c.loop-i.i ≡ length c.args.word.now = omega arith in
+    record { put = puts_all c.requires c.loop-i.invariant.1 all }

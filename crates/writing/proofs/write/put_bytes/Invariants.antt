@@ -1,15 +1,14 @@
 -- `write::put_bytes` meets its contract. The loop's invariant: the first `i` bytes of the word are put. Assumes nothing.
-use mathlib.Core.Path.{◌≡◌, refl}
-use Prim.Native.Nat.{◌+◌, ◌≤◌, ◌-◌}
-use native.Mathlib.Omega.{arith}
-use lib.ListN.{length, take, length-set}
+use mathlib.Core.Path.{◌≡◌}
+use Prim.Native.Nat.{◌≤◌, ◌-◌}
+use lib.ListN.{length, take}
 use Rattle.writing.specs.Listing.{Puts}
-use Rattle.writing.proofs.Places.{puts_nothing, puts_more, puts_place, puts_all}
-use Rattle.std.proofs.Common.{rules}
 use Rattle.writing.proofs.write.put_bytes.Given as goal
 
 abbrev pub invariant-loop-i : goal.invariant-loop-i
-invariant-loop-i l = (l.i ≤ length l.word) × Puts l.initial.out l.at (take l.i l.word) l.out l.next × (length l.out ≡ length l.initial.out)
+invariant-loop-i l =
+    (l.i ≤ length l.word) × Puts l.initial.out l.at (take l.i l.word) l.out l.next ×
+    (length l.out ≡ length l.initial.out)
 
 abbrev pub decreases-loop-i : goal.decreases-loop-i
 decreases-loop-i l = length l.word - l.i

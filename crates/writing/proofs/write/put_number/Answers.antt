@@ -1,11 +1,12 @@
 -- `write::put_number` meets its contract: the digits, and then the byte that ends the field. Assumes nothing.
 use mathlib.Core.List.{[], ◌∷◌}
 use Rattle.writing.proofs.Places.{room_first, room_rest, puts_then}
-use Rattle.std.proofs.Common.{rules}
 use Rattle.writing.proofs.write.put_number.Goals as goal
 
 pub put_digits-next-requires : goal.put_digits-next-requires
-put_digits-next-requires c = let start = c in room_first (start.args.end ∷ []) start.requires
+put_digits-next-requires c =
+    let start = c in
+    room_first (start.args.end ∷ []) start.requires
 
 pub put_byte-requires : goal.put_byte-requires
 put_byte-requires c = room_rest c.requires c.put_digits-next.ensures.put

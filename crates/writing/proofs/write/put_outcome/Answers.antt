@@ -2,7 +2,6 @@
 use mathlib.Core.Path.{sym}
 use Rattle.writing.proofs.Lines.{done_is, paused_is}
 use Rattle.writing.proofs.Places.{room_is, puts_is}
-use Rattle.std.proofs.Common.{rules}
 use Rattle.writing.proofs.write.put_outcome.Goals as goal
 
 pub put_outcome_line-requires : goal.put_outcome_line-requires

@@ -5,7 +5,6 @@ use Rattle.writing.specs.Digits.{digits}
 use Rattle.writing.specs.Listing.{Room}
 use Rattle.writing.proofs.Lines.{ended, line_two}
 use Rattle.writing.proofs.Places.{room_first, room_is, room_rest, puts_is, puts_then}
-use Rattle.std.proofs.Common.{rules}
 use Rattle.writing.proofs.write.put_outcome_line.Goals as goal
 use Rattle.writing.proofs.write.put_outcome_line.Goals.{Start}
 

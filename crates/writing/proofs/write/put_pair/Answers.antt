@@ -2,7 +2,6 @@
 use mathlib.Core.Path.{sym}
 use Rattle.writing.proofs.Lines.{pair_possible, pair_certain, pair_none}
 use Rattle.writing.proofs.Places.{room_is, puts_is, puts_nothing}
-use Rattle.std.proofs.Common.{rules}
 use Rattle.writing.proofs.write.put_pair.Goals as goal
 
 pub put_pair_line-requires : goal.put_pair_line-requires

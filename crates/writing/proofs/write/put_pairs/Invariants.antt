@@ -1,19 +1,16 @@
 -- `write::put_pairs` meets its contract. The loop's invariant: `p` is the pair number `i`, and the lines of the pairs before it are put.
 -- Assumes nothing.
-use mathlib.Core.Path.{◌≡◌, refl, sym, ap, ◌∙◌}
+use mathlib.Core.Path.{◌≡◌}
 use Prim.Native.Nat.{◌≤◌, ◌-◌}
-use native.Mathlib.Omega.{arith}
 use lib.ListN.{length}
-use Rattle.pairs.specs.Pairs.{pair_count, pair_at}
+use Rattle.pairs.specs.Pairs.{pair_at}
 use Rattle.writing.specs.Listing.{pair_texts, Puts}
-use Rattle.writing.proofs.Lines.{pairs_none}
-use Rattle.writing.proofs.Pairs.{first_is, next_is, pair_ends, room_pair, puts_pair}
-use Rattle.writing.proofs.Places.{puts_is, puts_nothing}
-use Rattle.std.proofs.Common.{rules}
 use Rattle.writing.proofs.write.put_pairs.Given as goal
 
 abbrev pub invariant-loop-i : goal.invariant-loop-i
-invariant-loop-i l = (l.i ≤ l.count) × (l.p ≡ pair_at l.i) × Puts l.initial.out l.at (pair_texts l.st l.i) l.out l.next × (length l.out ≡ length l.initial.out)
+invariant-loop-i l =
+    (l.i ≤ l.count) × (l.p ≡ pair_at l.i) × Puts l.initial.out l.at (pair_texts l.st l.i) l.out l.next ×
+    (length l.out ≡ length l.initial.out)
 
 abbrev pub decreases-loop-i : goal.decreases-loop-i
 decreases-loop-i l = l.count - l.i

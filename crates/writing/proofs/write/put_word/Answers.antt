@@ -1,11 +1,12 @@
 -- `write::put_word` meets its contract: the word, and then the byte that ends the field. Assumes nothing.
 use mathlib.Core.List.{[], ◌∷◌}
 use Rattle.writing.proofs.Places.{room_first, room_rest, puts_then}
-use Rattle.std.proofs.Common.{rules}
 use Rattle.writing.proofs.write.put_word.Goals as goal
 
 pub put_bytes-next-requires : goal.put_bytes-next-requires
-put_bytes-next-requires c = let start = c in room_first (start.args.end ∷ []) start.requires
+put_bytes-next-requires c =
+    let start = c in
+    room_first (start.args.end ∷ []) start.requires
 
 pub put_byte-requires : goal.put_byte-requires
 put_byte-requires c = room_rest c.requires c.put_bytes-next.ensures.put

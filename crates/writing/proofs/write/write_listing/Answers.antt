@@ -6,7 +6,6 @@ use Rattle.writing.specs.Listing.{outcome_text, pairs_text, Room}
 use Rattle.writing.proofs.Lengths.{listing_length}
 use Rattle.writing.proofs.Lines.{listing_is}
 use Rattle.writing.proofs.Places.{room_first, room_is, room_rest, puts_is, puts_then, start_length, start_filled}
-use Rattle.std.proofs.Common.{rules}
 use Rattle.writing.proofs.write.write_listing.Goals as goal
 use Rattle.writing.proofs.write.write_listing.Goals.{Start}
 
@@ -21,20 +20,33 @@ pub put_outcome-next-requires : goal.put_outcome-next-requires
 put_outcome-next-requires c = room_first _ (lines (goal.at.put_outcome-next-requires c).Start)
 
 pub put_pairs-requires-clause-n_bound : goal.put_pairs-requires-clause-n_bound
-put_pairs-requires-clause-n_bound c = let start = c in start.requires.n_bound
+put_pairs-requires-clause-n_bound c =
+    let start = c in
+    start.requires.n_bound
 
 pub put_pairs-requires-clause-st_len : goal.put_pairs-requires-clause-st_len
-put_pairs-requires-clause-st_len c = let start = c in start.requires.st_len
+put_pairs-requires-clause-st_len c =
+    let start = c in
+    start.requires.st_len
 
 pub put_pairs-requires-clause-room : goal.put_pairs-requires-clause-room
-put_pairs-requires-clause-room c = room_rest (lines (goal.at.put_pairs-requires-clause-room c).Start) c.put_outcome-next.ensures.put
+put_pairs-requires-clause-room c =
+    room_rest (lines (goal.at.put_pairs-requires-clause-room c).Start) c.put_outcome-next.ensures.put
 
 pub returns-clause-counted : goal.returns-clause-counted
-returns-clause-counted c = let start = c in let a = start.args in let put =
+returns-clause-counted c =
+    let start = c in
+    let a = start.args in
+    let put =
     puts_is (sym (listing_is a.done a.examinations a.st.now a.n))
-    (puts_then (lines (goal.at.returns-clause-counted c).Start) c.put_outcome-next.ensures.put c.put_pairs.ensures.put) in start_length put
+    (puts_then (lines (goal.at.returns-clause-counted c).Start) c.put_outcome-next.ensures.put c.put_pairs.ensures.put) in
+    start_length put
 
 pub returns-clause-written : goal.returns-clause-written
-returns-clause-written c = let start = c in let a = start.args in let put =
+returns-clause-written c =
+    let start = c in
+    let a = start.args in
+    let put =
     puts_is (sym (listing_is a.done a.examinations a.st.now a.n))
-    (puts_then (lines (goal.at.returns-clause-written c).Start) c.put_outcome-next.ensures.put c.put_pairs.ensures.put) in start_filled put
+    (puts_then (lines (goal.at.returns-clause-written c).Start) c.put_outcome-next.ensures.put c.put_pairs.ensures.put) in
+    start_filled put
