@@ -191,9 +191,11 @@ def turn_edit(path, text):
 
 
 def turn_page(text):
+    spoken_names = {n: s for n, s in names.items() if re.search("[A-Z-]", n)}
+
     def word(m):
         w = m.group(0)
-        return names.get(w) or (snake(w) if re.match(r"[a-z][a-z0-9]*[A-Z]", w) else w)
+        return spoken_names.get(w) or (snake(w) if re.match(r"[a-z][a-z0-9]*[A-Z]", w) else w)
 
     return re.sub(r"`([^`\n]*)`", lambda m: "`" + TOKEN.sub(word, m.group(1)) + "`", text)
 

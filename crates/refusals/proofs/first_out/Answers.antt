@@ -17,7 +17,7 @@ unfolding first_out is_out
 returns-then-not-is_in_range c = record {
   first =
       first_here _ _ _ (search rules) c.loop-k.invariant.1
-      (ap not (ap in_range (sym (back (search rules))) ∙ sym c.is_in_range.ensures.ranged) ∙ c.if-not-is_in_range.true-raw);
+      (ap not (ap in_range (sym (back (search rules))) ∙ sym c.is_in_range.ensures.ranged ∙ c.if-not-is_in_range.true));
 }
 
 pub loop-k-preserved : goal.loop-k-preserved
@@ -25,7 +25,7 @@ unfolding is_out
 loop-k-preserved c = (
   search rules,
   below_more _ _ c.loop-k.invariant.1
-      (ap not (ap in_range (sym (back (search rules))) ∙ sym c.is_in_range.ensures.ranged) ∙ c.if-not-is_in_range.false-raw),
+      (ap not (ap in_range (sym (back (search rules))) ∙ sym c.is_in_range.ensures.ranged ∙ c.if-not-is_in_range.false)),
 )
 
 pub returns : goal.returns

@@ -61,7 +61,7 @@ returns-then-not-is_crossed-clause-examined c =
     let e = c.requires.i_value in
     examine_stuck c.args.m.now c.args.struck c.args.exams c.args.st.now c.args.a c.args.b c.requires.a_lt_b e
     c.first_certificate-c.ensures.first c.in-Nothing.is
-    (ap (crossed (plate c.args.m.now) (remaining c.args.st.now)) e ∙ sym c.is_crossed.ensures.crossed ∙ not-true _ c.if-not-is_crossed.true-raw)
+    (ap (crossed (plate c.args.m.now) (remaining c.args.st.now)) e ∙ sym c.is_crossed.ensures.crossed ∙ c.if-not-is_crossed.true)
 
 pub returns-then-not-is_crossed-clause-ready : goal.returns-then-not-is_crossed-clause-ready
 unfolding as_state state_by as_final outcome_by
@@ -88,7 +88,7 @@ returns-clause-examined c =
     let e = c.requires.i_value in
     examine_strikes c.args.m.now c.args.struck c.args.exams c.args.st.now c.args.a c.args.b c.requires.a_lt_b e
     c.first_certificate-c.ensures.first c.in-Nothing.is
-    (ap (crossed (plate c.args.m.now) (remaining c.args.st.now)) e ∙ sym c.is_crossed.ensures.crossed ∙ not-false _ c.if-not-is_crossed.false-raw)
+    (ap (crossed (plate c.args.m.now) (remaining c.args.st.now)) e ∙ sym c.is_crossed.ensures.crossed ∙ c.if-not-is_crossed.false)
 
 pub returns-clause-ready : goal.returns-clause-ready
 unfolding as_state state_by

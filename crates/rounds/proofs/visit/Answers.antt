@@ -40,7 +40,7 @@ is_due-requires-clause-i_in_bounds c =
 pub returns-then-not-is_due-clause-visited : goal.returns-then-not-is_due-clause-visited
 returns-then-not-is_due-clause-visited c =
     turn_passes (plate c.args.m.now) c.args.budget c.args.i c.args.run c.args.st.now c.in-Going.is
-    (sym c.is_due.ensures.due ∙ not-true _ c.if-not-is_due.true-raw)
+    (sym c.is_due.ensures.due ∙ c.if-not-is_due.true)
 
 pub returns-then-not-is_due-clause-ready : goal.returns-then-not-is_due-clause-ready
 returns-then-not-is_due-clause-ready c = c.requires.ready_2
@@ -60,7 +60,7 @@ examine-requires-clause-i_value c = c.requires.i_value
 pub examine-requires-clause-b_value : goal.examine-requires-clause-b_value
 examine-requires-clause-b_value c =
     due_edge c.requires.ready_2 c.requires.a_lt_b c.requires.mark c.requires.i_value
-    (sym c.is_due.ensures.due ∙ not-false _ c.if-not-is_due.false-raw)
+    (sym c.is_due.ensures.due ∙ c.if-not-is_due.false)
 
 pub examine-requires-clause-exams_bound : goal.examine-requires-clause-exams_bound
 examine-requires-clause-exams_bound c =
@@ -76,7 +76,7 @@ pub returns-then-exams-budget-clause-visited : goal.returns-then-exams-budget-cl
 returns-then-exams-budget-clause-visited c =
     c.examine.ensures.examined ∙
     turn_examines (plate c.args.m.now) c.args.budget c.args.i c.args.run c.args.st.now c.in-Going.is
-    (sym c.is_due.ensures.due ∙ not-false _ c.if-not-is_due.false-raw) c.if-exams-budget.true
+    (sym c.is_due.ensures.due ∙ c.if-not-is_due.false) c.if-exams-budget.true
 
 pub returns-then-exams-budget-clause-ready : goal.returns-then-exams-budget-clause-ready
 returns-then-exams-budget-clause-ready c = c.examine.ensures.ready
@@ -85,7 +85,7 @@ pub returns-clause-visited : goal.returns-clause-visited
 unfolding as_state state_by as_final outcome_by
 returns-clause-visited c =
     turn_pauses (plate c.args.m.now) c.args.budget c.args.i c.args.run c.args.st.now c.in-Going.is
-    (sym c.is_due.ensures.due ∙ not-false _ c.if-not-is_due.false-raw) c.if-exams-budget.false
+    (sym c.is_due.ensures.due ∙ c.if-not-is_due.false) c.if-exams-budget.false
 
 pub returns-clause-ready : goal.returns-clause-ready
 unfolding as_state state_by as_final outcome_by

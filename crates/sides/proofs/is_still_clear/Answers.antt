@@ -26,8 +26,7 @@ returns-then-not-is_on c =
     record {
       clear =
           stays _ _ (clear_off _ _ _ _ (sym (side_on _ _ _) ∙ ap is_on
-          (sym s.requires.s_value ∙ sym (back s.ranges.s)) ∙ sym c.is_on.ensures.on ∙ not-true _
-          c.if-not-is_on.true-raw));
+          (sym s.requires.s_value ∙ sym (back s.ranges.s)) ∙ sym c.is_on.ensures.on ∙ c.if-not-is_on.true));
     }
 
 pub is_between-requires-clause-in_range : goal.is_between-requires-clause-in_range
@@ -50,7 +49,7 @@ returns-then-not-is_between c = record {
   clear =
       stays _ _ (clear_past _ _ _ _ (sym
       (λ i. between (c.mark.ensures.placed i) (c.mark-2.ensures.placed i) (c.mark-3.ensures.placed i)) ∙ sym
-      c.is_between.ensures.between ∙ not-true _ c.if-not-is_between.true-raw));
+      c.is_between.ensures.between ∙ c.if-not-is_between.true));
 }
 
 pub returns-then-k-a : goal.returns-then-k-a
@@ -65,8 +64,8 @@ returns c =
     record {
       clear =
           stops s.args.sofar _ (clear_third _ _ _ _ c.if-k-a.false c.if-k-b.false (sym (side_on _ _ _) ∙ ap is_on
-          (sym s.requires.s_value ∙ sym (back s.ranges.s)) ∙ sym c.is_on.ensures.on ∙ not-false _
-          c.if-not-is_on.false-raw) ∙ ap not (sym
+          (sym s.requires.s_value ∙ sym (back s.ranges.s)) ∙ sym c.is_on.ensures.on ∙ c.if-not-is_on.false) ∙ ap
+          not (sym
           (λ i. between (c.mark.ensures.placed i) (c.mark-2.ensures.placed i) (c.mark-3.ensures.placed i)) ∙ sym
-          c.is_between.ensures.between ∙ not-false _ c.if-not-is_between.false-raw));
+          c.is_between.ensures.between ∙ c.if-not-is_between.false));
     }

@@ -21,5 +21,5 @@ returns-clause-filled c =
     let few = c.requires.plate.few in
     let x = c.sides_of-x.ensures.found in
     subst (λ (t : List ℕ). Filled c.args.m.now t (pair_number c.args.a c.args.b + 1))
-    (sym (c.put_entry-2.ensures.put ∙ ap (λ (t : List ℕ). put_entry t c.args.b c.args.a c.sides_of-x.result.right) c.put_entry.ensures.put))
-    (fill_next c.args.a c.args.b c.requires.a_lt_b (omega arith) c.requires.filled_2 x.lefts x.rights)
+        (sym (c.put_entry-2.ensures.put ∙ ap (λ (t : List ℕ). put_entry t c.args.b c.args.a c.sides_of-x.result.right) c.put_entry.ensures.put))
+        (fill_next c.args.a c.args.b c.requires.a_lt_b (omega arith) c.requires.filled_2 x.lefts x.rights)

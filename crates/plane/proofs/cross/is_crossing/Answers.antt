@@ -15,7 +15,7 @@ returns-then-not-is_opposite c = record {
       sym (cond_no _ _ (sym (side_opposite _ _ _ _ _ _) ∙ ap₂ opposite
       (sym c.side.ensures.sided ∙ sym (back (record { sfits = c.side.type_inv })))
       (sym c.side-2.ensures.sided ∙ sym (back (record { sfits = c.side-2.type_inv }))) ∙ sym
-      c.is_opposite.ensures.opposite ∙ not-true _ c.if-not-is_opposite.true-raw));
+      c.is_opposite.ensures.opposite ∙ c.if-not-is_opposite.true));
 }
 
 pub returns : goal.returns
@@ -25,7 +25,7 @@ returns c = record {
       sym (cond_yes _ _ (sym (side_opposite _ _ _ _ _ _) ∙ ap₂ opposite
       (sym c.side.ensures.sided ∙ sym (back (record { sfits = c.side.type_inv })))
       (sym c.side-2.ensures.sided ∙ sym (back (record { sfits = c.side-2.type_inv }))) ∙ sym
-      c.is_opposite.ensures.opposite ∙ not-false _ c.if-not-is_opposite.false-raw) ∙ sym (side_opposite _ _ _ _ _
+      c.is_opposite.ensures.opposite ∙ c.if-not-is_opposite.false) ∙ sym (side_opposite _ _ _ _ _
       _) ∙ ap₂ opposite (sym c.side-3.ensures.sided ∙ sym (back (record { sfits = c.side-3.type_inv }))) (sym
       c.side-4.ensures.sided ∙ sym (back (record { sfits = c.side-4.type_inv }))) ∙ sym
       c.is_opposite-2.ensures.opposite);

@@ -13,14 +13,14 @@ loop-k-init c = (search rules, c.count-n.ensures.counted, all_none _)
 pub returns-then-not-is_clear : goal.returns-then-not-is_clear
 unfolding empty_edge
 returns-then-not-is_clear c = record {
-  empty = sym (all_no _ c.loop-k.k _ (search rules) (sym c.is_clear.ensures.clear ∙ not-true _ c.if-not-is_clear.true-raw));
+  empty = sym (all_no _ c.loop-k.k _ (search rules) (sym c.is_clear.ensures.clear ∙ c.if-not-is_clear.true));
 }
 
 pub loop-k-preserved : goal.loop-k-preserved
 loop-k-preserved c = (
   search rules,
   c.loop-k.invariant.1,
-  all_more _ _ c.loop-k.invariant.2 (sym c.is_clear.ensures.clear ∙ not-false _ c.if-not-is_clear.false-raw),
+  all_more _ _ c.loop-k.invariant.2 (sym c.is_clear.ensures.clear ∙ c.if-not-is_clear.false),
 )
 
 pub returns : goal.returns

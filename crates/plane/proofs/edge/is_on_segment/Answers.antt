@@ -14,7 +14,7 @@ returns-then-not-is_on c = record {
   on =
       sym (cond_no _ _ (sym (side_on _ _ _) ∙ ap is_on
       (sym c.side.ensures.sided ∙ sym (back (record { sfits = c.side.type_inv }))) ∙ sym c.is_on.ensures.on ∙
-      not-true _ c.if-not-is_on.true-raw));
+      c.if-not-is_on.true));
 }
 
 pub returns : goal.returns
@@ -24,5 +24,5 @@ returns c = record {
       c.is_between.ensures.between ∙
       sym (cond_yes _ _ (sym (side_on _ _ _) ∙ ap is_on
       (sym c.side.ensures.sided ∙ sym (back (record { sfits = c.side.type_inv }))) ∙ sym c.is_on.ensures.on ∙
-      not-false _ c.if-not-is_on.false-raw));
+      c.if-not-is_on.false));
 }

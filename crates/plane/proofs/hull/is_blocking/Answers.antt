@@ -15,7 +15,7 @@ pub returns-then-not-is_on : goal.returns-then-not-is_on
 returns-then-not-is_on c = record {
   blocking =
       sym (ap not (clear_off _ _ _ _ (sym (side_on _ _ _) ∙ ap is_on (sym c.requires.s_value ∙ sym (back c.ranges.s))
-      ∙ sym c.is_on.ensures.on ∙ not-true _ c.if-not-is_on.true-raw)));
+      ∙ sym c.is_on.ensures.on ∙ c.if-not-is_on.true)));
 }
 
 pub returns-then-k-a : goal.returns-then-k-a
@@ -41,6 +41,5 @@ returns c = record {
       c.is_between.ensures.between ∙
       (λ i. between (c.mark.ensures.placed i) (c.mark-2.ensures.placed i) (c.mark-3.ensures.placed i)) ∙
       sym (ap not (clear_third _ _ _ _ c.if-k-a.false c.if-k-b.false (sym (side_on _ _ _) ∙ ap is_on
-      (sym c.requires.s_value ∙ sym (back c.ranges.s)) ∙ sym c.is_on.ensures.on ∙ not-false _
-      c.if-not-is_on.false-raw)) ∙ not_not _);
+      (sym c.requires.s_value ∙ sym (back c.ranges.s)) ∙ sym c.is_on.ensures.on ∙ c.if-not-is_on.false)) ∙ not_not _);
 }

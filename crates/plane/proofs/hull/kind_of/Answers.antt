@@ -80,7 +80,7 @@ returns-then-not-left c =
     record {
       kind =
           sym (kind_left _ _ _ (all_upto _ e c.loop-k.invariant.2)
-          (all_upto _ e (sym (not_not _) ∙ ap not (sym c.loop-k.invariant.3) ∙ c.if-not-left.true-raw)));
+          (all_upto _ e (sym (not_not _) ∙ ap not (sym c.loop-k.invariant.3 ∙ c.if-not-left.true))));
     }
 
 pub returns-then-not-right : goal.returns-then-not-right
@@ -90,7 +90,7 @@ returns-then-not-right c =
     record {
       kind =
           sym (kind_right _ _ _ (all_upto _ e c.loop-k.invariant.2)
-          (all_upto _ e (sym (not_not _) ∙ ap not (sym c.loop-k.invariant.4) ∙ c.if-not-right.true-raw)));
+          (all_upto _ e (sym (not_not _) ∙ ap not (sym c.loop-k.invariant.4 ∙ c.if-not-right.true))));
     }
 
 pub returns : goal.returns
@@ -100,6 +100,6 @@ returns c =
     record {
       kind =
           sym (kind_inner _ _ _ (all_upto _ e c.loop-k.invariant.2)
-          (all_upto _ e (sym (not_not _) ∙ ap not (sym c.loop-k.invariant.3) ∙ c.if-not-left.false-raw))
-          (all_upto _ e (sym (not_not _) ∙ ap not (sym c.loop-k.invariant.4) ∙ c.if-not-right.false-raw)));
+          (all_upto _ e (sym (not_not _) ∙ ap not (sym c.loop-k.invariant.3 ∙ c.if-not-left.false)))
+          (all_upto _ e (sym (not_not _) ∙ ap not (sym c.loop-k.invariant.4 ∙ c.if-not-right.false))));
     }

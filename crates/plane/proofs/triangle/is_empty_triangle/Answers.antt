@@ -34,7 +34,7 @@ returns-then-not-is_empty_edge c = record {
       sym (cond_no _ _ (sym (side_on _ _ _) ∙ ap is_on (sym
       (c.side.ensures.sided ∙ (λ i. side (c.mark.ensures.placed i) (c.mark-2.ensures.placed i) (c.mark-3.ensures.placed i)))
       ∙ sym (back (record { sfits = c.side.type_inv }))) ∙ sym c.is_on.ensures.on ∙ c.if-is_on.false) ∙ cond_no _
-      _ (sym c.is_empty_edge.ensures.empty ∙ not-true _ c.if-not-is_empty_edge.true-raw));
+      _ (sym c.is_empty_edge.ensures.empty ∙ c.if-not-is_empty_edge.true));
 }
 
 pub returns-then-not-is_empty_edge-2 : goal.returns-then-not-is_empty_edge-2
@@ -44,8 +44,8 @@ returns-then-not-is_empty_edge-2 c = record {
       sym (cond_no _ _ (sym (side_on _ _ _) ∙ ap is_on (sym
       (c.side.ensures.sided ∙ (λ i. side (c.mark.ensures.placed i) (c.mark-2.ensures.placed i) (c.mark-3.ensures.placed i)))
       ∙ sym (back (record { sfits = c.side.type_inv }))) ∙ sym c.is_on.ensures.on ∙ c.if-is_on.false) ∙ cond_yes _
-      _ (sym c.is_empty_edge.ensures.empty ∙ not-false _ c.if-not-is_empty_edge.false-raw) ∙ cond_no _ _ (sym
-      c.is_empty_edge-2.ensures.empty ∙ not-true _ c.if-not-is_empty_edge-2.true-raw));
+      _ (sym c.is_empty_edge.ensures.empty ∙ c.if-not-is_empty_edge.false) ∙ cond_no _ _ (sym
+      c.is_empty_edge-2.ensures.empty ∙ c.if-not-is_empty_edge-2.true));
 }
 
 pub returns-then-not-is_empty_edge-3 : goal.returns-then-not-is_empty_edge-3
@@ -55,9 +55,9 @@ returns-then-not-is_empty_edge-3 c = record {
       sym (cond_no _ _ (sym (side_on _ _ _) ∙ ap is_on (sym
       (c.side.ensures.sided ∙ (λ i. side (c.mark.ensures.placed i) (c.mark-2.ensures.placed i) (c.mark-3.ensures.placed i)))
       ∙ sym (back (record { sfits = c.side.type_inv }))) ∙ sym c.is_on.ensures.on ∙ c.if-is_on.false) ∙ cond_yes _
-      _ (sym c.is_empty_edge.ensures.empty ∙ not-false _ c.if-not-is_empty_edge.false-raw) ∙ cond_yes _ _ (sym
-      c.is_empty_edge-2.ensures.empty ∙ not-false _ c.if-not-is_empty_edge-2.false-raw) ∙ cond_no _ _ (sym
-      c.is_empty_edge-3.ensures.empty ∙ not-true _ c.if-not-is_empty_edge-3.true-raw));
+      _ (sym c.is_empty_edge.ensures.empty ∙ c.if-not-is_empty_edge.false) ∙ cond_yes _ _ (sym
+      c.is_empty_edge-2.ensures.empty ∙ c.if-not-is_empty_edge-2.false) ∙ cond_no _ _ (sym
+      c.is_empty_edge-3.ensures.empty ∙ c.if-not-is_empty_edge-3.true));
 }
 
 pub returns : goal.returns
@@ -68,7 +68,7 @@ returns c = record {
       sym (cond_no _ _ (sym (side_on _ _ _) ∙ ap is_on (sym
       (c.side.ensures.sided ∙ (λ i. side (c.mark.ensures.placed i) (c.mark-2.ensures.placed i) (c.mark-3.ensures.placed i)))
       ∙ sym (back (record { sfits = c.side.type_inv }))) ∙ sym c.is_on.ensures.on ∙ c.if-is_on.false) ∙
-      cond_yes _ _ (sym c.is_empty_edge.ensures.empty ∙ not-false _ c.if-not-is_empty_edge.false-raw) ∙
-      cond_yes _ _ (sym c.is_empty_edge-2.ensures.empty ∙ not-false _ c.if-not-is_empty_edge-2.false-raw) ∙
-      cond_yes _ _ (sym c.is_empty_edge-3.ensures.empty ∙ not-false _ c.if-not-is_empty_edge-3.false-raw));
+      cond_yes _ _ (sym c.is_empty_edge.ensures.empty ∙ c.if-not-is_empty_edge.false) ∙
+      cond_yes _ _ (sym c.is_empty_edge-2.ensures.empty ∙ c.if-not-is_empty_edge-2.false) ∙
+      cond_yes _ _ (sym c.is_empty_edge-3.ensures.empty ∙ c.if-not-is_empty_edge-3.false));
 }

@@ -14,7 +14,7 @@ returns-then-not-is_same_side c = record {
       sym (inside_same _ _ _ _ ∙ cond_no _ _ (sym (side_same _ _ _ _ _ _) ∙ ap₂ same_side
       (sym c.side-s.ensures.sided ∙ sym (back (record { sfits = c.side-s.type_inv })))
       (sym c.side.ensures.sided ∙ sym (back (record { sfits = c.side.type_inv }))) ∙ sym
-      c.is_same_side.ensures.same ∙ not-true _ c.if-not-is_same_side.true-raw));
+      c.is_same_side.ensures.same ∙ c.if-not-is_same_side.true));
 }
 
 pub returns : goal.returns
@@ -23,7 +23,7 @@ returns c = record {
       sym (inside_same _ _ _ _ ∙ cond_yes _ _ (sym (side_same _ _ _ _ _ _) ∙ ap₂ same_side
       (sym c.side-s.ensures.sided ∙ sym (back (record { sfits = c.side-s.type_inv })))
       (sym c.side.ensures.sided ∙ sym (back (record { sfits = c.side.type_inv }))) ∙ sym
-      c.is_same_side.ensures.same ∙ not-false _ c.if-not-is_same_side.false-raw) ∙ sym (side_same _ _ _ _ _ _) ∙
+      c.is_same_side.ensures.same ∙ c.if-not-is_same_side.false) ∙ sym (side_same _ _ _ _ _ _) ∙
       ap₂ same_side (sym c.side-s.ensures.sided ∙ sym (back (record { sfits = c.side-s.type_inv }))) (sym
       c.side-2.ensures.sided ∙ sym (back (record { sfits = c.side-2.type_inv }))) ∙ sym
       c.is_same_side-2.ensures.same);

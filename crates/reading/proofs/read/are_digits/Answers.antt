@@ -21,7 +21,7 @@ returns-then-not-is_digit c =
     record {
       digits =
           sym
-          (all_no _ l.i _ (omega arith) (digit_is _ _ _ l.invariant.0 ∙ sym c.is_digit.ensures.digit ∙ not-true _ c.if-not-is_digit.true-raw));
+              (all_no _ l.i _ (omega arith) (digit_is _ _ _ l.invariant.0 ∙ sym c.is_digit.ensures.digit ∙ c.if-not-is_digit.true));
     }
 
 pub overflow_add-i : goal.overflow_add-i
@@ -36,7 +36,7 @@ loop-i-preserved c =
       omega arith,
       omega arith,
       all_more _ _ l.invariant.2
-          (digit_is _ _ _ l.invariant.0 ∙ sym c.is_digit.ensures.digit ∙ not-false _ c.if-not-is_digit.false-raw),
+          (digit_is _ _ _ l.invariant.0 ∙ sym c.is_digit.ensures.digit ∙ c.if-not-is_digit.false),
     )
 
 pub returns : goal.returns

@@ -58,14 +58,14 @@ pub overflow_cast-result : goal.overflow_cast-result
 overflow_cast-result c = record {
   sfits =
       omega
-      (arith, below (goal.at.overflow_cast-result c).After-number (rest (goal.at.overflow_cast-result c).Then-starts_with));
+          (arith, below (goal.at.overflow_cast-result c).After-number (rest (goal.at.overflow_cast-result c).Then-starts_with));
 }
 
 pub overflow_sub-result : goal.overflow_sub-result
 overflow_sub-result c =
     subst (SFits w32)
-    (sym (minus _ (below (goal.at.overflow_sub-result c).After-number (rest (goal.at.overflow_sub-result c).Then-starts_with))))
-    (minus-fits _ (below (goal.at.overflow_sub-result c).After-number (rest (goal.at.overflow_sub-result c).Then-starts_with)))
+        (sym (minus _ (below (goal.at.overflow_sub-result c).After-number (rest (goal.at.overflow_sub-result c).Then-starts_with))))
+        (minus-fits _ (below (goal.at.overflow_sub-result c).After-number (rest (goal.at.overflow_sub-result c).Then-starts_with)))
 
 pub returns-then-starts_with : goal.returns-then-starts_with
 unfolding coordinate_of
@@ -90,7 +90,7 @@ pub overflow_cast-result-2 : goal.overflow_cast-result-2
 overflow_cast-result-2 c = record {
   sfits =
       omega
-      (arith, below-2 (goal.at.overflow_cast-result-2 c).After-number-2 (whole (goal.at.overflow_cast-result-2 c).Else-starts_with));
+          (arith, below-2 (goal.at.overflow_cast-result-2 c).After-number-2 (whole (goal.at.overflow_cast-result-2 c).Else-starts_with));
 }
 
 pub returns : goal.returns

@@ -26,7 +26,7 @@ asked : (c : After-is_good) → c.is_good.result ≡ is_good c.args.text.now c.l
 asked c = c.is_good.ensures.good ∙ good_at _ _ _ _ c.loop-at.invariant.0 c.place_of-e.ensures.placed
 
 ended : (c : Else-not-is_good) → c.place_of-e.result < length c.args.text.now
-ended c = good_ended _ _ _ _ (sym c.is_good.ensures.good ∙ not-false _ c.if-not-is_good.false-raw)
+ended c = good_ended _ _ _ _ (sym c.is_good.ensures.good ∙ c.if-not-is_good.false)
 
 pub loop-at-init : goal.loop-at-init
 loop-at-init c = (sym (first_start _), search rules, search rules, below_none _)
@@ -43,7 +43,7 @@ returns-then-not-is_good c = record {
   first =
       first_here _ _ _ (omega arith) c.loop-at.invariant.3 (bad_here _ _
       (starts (goal.at.returns-then-not-is_good c).In-loop-at)
-      (sym (asked (goal.at.returns-then-not-is_good c).After-is_good) ∙ not-true _ c.if-not-is_good.true-raw));
+      (sym (asked (goal.at.returns-then-not-is_good c).After-is_good) ∙ c.if-not-is_good.true));
 }
 
 pub overflow_add-at : goal.overflow_add-at
@@ -62,7 +62,7 @@ loop-at-preserved c =
       omega (arith, (line (goal.at.loop-at-preserved c).After-place_of-e).ordered),
       omega (arith, ended (goal.at.loop-at-preserved c).Else-not-is_good),
       below_more _ _ l.invariant.3 (bad_not _ _ (starts (goal.at.loop-at-preserved c).In-loop-at)
-          (sym (asked (goal.at.loop-at-preserved c).After-is_good) ∙ not-false _ c.if-not-is_good.false-raw)),
+          (sym (asked (goal.at.loop-at-preserved c).After-is_good) ∙ c.if-not-is_good.false)),
     )
 
 pub returns : goal.returns

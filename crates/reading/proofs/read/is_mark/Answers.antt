@@ -39,7 +39,7 @@ returns-then-not-is_coordinate c = record {
   mark =
       spaced (goal.at.returns-then-not-is_coordinate c).After-place_of-s _ (sym (cond_yes _ _
       (lt-ltb _ _ c.if-e-s.false) ∙ cond_no _ _
-      (sym c.is_coordinate.ensures.coordinate ∙ not-true _ c.if-not-is_coordinate.true-raw)));
+      (sym c.is_coordinate.ensures.coordinate ∙ c.if-not-is_coordinate.true)));
 }
 
 pub overflow_add-s : goal.overflow_add-s
@@ -54,5 +54,5 @@ returns c = record {
   mark =
       spaced (goal.at.returns c).After-place_of-s _ (c.is_coordinate-2.ensures.coordinate ∙ sym (cond_yes _ _
       (lt-ltb _ _ c.if-e-s.false) ∙ cond_yes _ _
-      (sym c.is_coordinate.ensures.coordinate ∙ not-false _ c.if-not-is_coordinate.false-raw)));
+      (sym c.is_coordinate.ensures.coordinate ∙ c.if-not-is_coordinate.false)));
 }

@@ -43,7 +43,7 @@ overflow_cast-v c = omega (arith, (next (goal.at.overflow_cast-v c).In-loop-k).1
 pub overflow_add-v-in-loop-k : goal.overflow_add-v-in-loop-k
 overflow_add-v-in-loop-k c =
     omega
-    (arith, passed (goal.at.overflow_add-v-in-loop-k c).In-loop-k, (next (goal.at.overflow_add-v-in-loop-k c).In-loop-k).1)
+        (arith, passed (goal.at.overflow_add-v-in-loop-k c).In-loop-k, (next (goal.at.overflow_add-v-in-loop-k c).In-loop-k).1)
 
 pub overflow_add-k : goal.overflow_add-k
 overflow_add-k c = omega arith

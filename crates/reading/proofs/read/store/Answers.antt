@@ -65,7 +65,7 @@ bounds-numbers-k c = omega (arith, room (goal.at.bounds-numbers-k c).After-place
 pub overflow_add-s : goal.overflow_add-s
 overflow_add-s c =
     omega
-    (arith, (line (goal.at.overflow_add-s c).After-place_of-e).right.ordered, (line (goal.at.overflow_add-s c).After-place_of-e).right.within)
+        (arith, (line (goal.at.overflow_add-s c).After-place_of-e).right.ordered, (line (goal.at.overflow_add-s c).After-place_of-e).right.within)
 
 pub coordinate-requires-in-loop-at-clause-part : goal.coordinate-requires-in-loop-at-clause-part
 coordinate-requires-in-loop-at-clause-part c =
@@ -101,7 +101,8 @@ loop-at-smaller c = omega (arith, (line (goal.at.loop-at-smaller c).After-place_
 pub loop-at-preserved : goal.loop-at-preserved
 loop-at-preserved c =
     let l = c.loop-at in
-    let m = line (goal.at.loop-at-preserved c).After-place_of-e in (
+    let m = line (goal.at.loop-at-preserved c).After-place_of-e in
+    (
       m.next,
       omega (arith, m.long),
       omega (arith, m.ended),

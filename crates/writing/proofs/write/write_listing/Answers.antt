@@ -38,8 +38,8 @@ returns-clause-counted c =
     let start = c in
     let a = start.args in
     let put =
-    puts_is (sym (listing_is a.done a.examinations a.st.now a.n))
-    (puts_then (lines (goal.at.returns-clause-counted c).Start) c.put_outcome-next.ensures.put c.put_pairs.ensures.put) in
+        puts_is (sym (listing_is a.done a.examinations a.st.now a.n))
+            (puts_then (lines (goal.at.returns-clause-counted c).Start) c.put_outcome-next.ensures.put c.put_pairs.ensures.put) in
     start_length put
 
 pub returns-clause-written : goal.returns-clause-written
@@ -47,6 +47,6 @@ returns-clause-written c =
     let start = c in
     let a = start.args in
     let put =
-    puts_is (sym (listing_is a.done a.examinations a.st.now a.n))
-    (puts_then (lines (goal.at.returns-clause-written c).Start) c.put_outcome-next.ensures.put c.put_pairs.ensures.put) in
+        puts_is (sym (listing_is a.done a.examinations a.st.now a.n))
+            (puts_then (lines (goal.at.returns-clause-written c).Start) c.put_outcome-next.ensures.put c.put_pairs.ensures.put) in
     start_filled put

@@ -32,8 +32,8 @@ returns-clause-counted c =
     let room = fields (goal.at.returns-clause-counted c).Start in
     let first = c.put_word-second.ensures.put in
     let put =
-    puts_is (sym (refused_is start.args.number start.args.detail))
-    (puts_then room first (puts_then (room_rest room first) c.put_number-third.ensures.put c.put_number.ensures.put)) in
+        puts_is (sym (refused_is start.args.number start.args.detail))
+            (puts_then room first (puts_then (room_rest room first) c.put_number-third.ensures.put c.put_number.ensures.put)) in
     start_length put
 
 pub returns-clause-written : goal.returns-clause-written
@@ -42,6 +42,6 @@ returns-clause-written c =
     let room = fields (goal.at.returns-clause-written c).Start in
     let first = c.put_word-second.ensures.put in
     let put =
-    puts_is (sym (refused_is start.args.number start.args.detail))
-    (puts_then room first (puts_then (room_rest room first) c.put_number-third.ensures.put c.put_number.ensures.put)) in
+        puts_is (sym (refused_is start.args.number start.args.detail))
+            (puts_then room first (puts_then (room_rest room first) c.put_number-third.ensures.put c.put_number.ensures.put)) in
     start_filled put
