@@ -33,8 +33,8 @@ pub enum Pick {
 
 // The record of the certificate of (p, q) with the apexes r and s.
 pub fn certificate_of(p: usize, q: usize, r: usize, s: usize) -> Certificate
-    requires apart { Apart p q r }
-    requires apart_2 { Apart p q s }
+    requires r_apart { Apart p q r }
+    requires s_apart { Apart p q s }
     ensures kept { result ≡ certificate_of p q r s }
 {
     let pr = pair_of(p, r);
@@ -99,10 +99,10 @@ fn right_candidates(
 fn is_match(m: &[i32], t: &[u64], p: usize, q: usize, r: usize, s: usize, across: Set) -> bool
     requires plate { Plate m.now }
     requires table { Table m.now t.now }
-    requires mark { IsMark m.now p }
-    requires mark_2 { IsMark m.now q }
-    requires mark_3 { IsMark m.now r }
-    requires mark_4 { IsMark m.now s }
+    requires p_is_mark { IsMark m.now p }
+    requires q_is_mark { IsMark m.now q }
+    requires r_is_mark { IsMark m.now r }
+    requires s_is_mark { IsMark m.now s }
     requires across_value { across ≡ set_of (split_mark m.now p q r) }
     ensures fits { result ≡ goes_with m.now p q r s }
 {
@@ -121,8 +121,8 @@ pub fn first_certificate(m: &[i32], st: &[u8], t: &[u64], d: &[u64], p: usize, q
     requires table { Table m.now t.now }
     requires rows { Rows m.now (edges_of m.now (remaining st.now)) d.now }
     requires p_lt_q { p < q }
-    requires mark { IsMark m.now q }
-    requires q_value { empty_edge m.now p q ≡ true }
+    requires q_is_mark { IsMark m.now q }
+    requires empty { empty_edge m.now p q ≡ true }
     ensures first { result ≡ first_certificate m.now (edges_of m.now (remaining st.now)) p q }
 {
     let rights = candidates(m, st, t, d, p, q, q, p);

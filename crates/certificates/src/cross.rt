@@ -32,7 +32,7 @@ pub fn is_crossed(m: &[i32], st: &[u8], t: &[u64], d: &[u64], p: usize, q: usize
     requires clean { Clean m.now st.now }
     requires rows { Rows m.now (edges_of m.now (remaining st.now)) d.now }
     requires p_lt_q { p < q }
-    requires mark { IsMark m.now q }
+    requires q_is_mark { IsMark m.now q }
     ensures crossed { result ≡ crossed (plate m.now) (remaining st.now) (pair_number p q) }
 {
     let mut lefts = left_set(m, t, p, q);

@@ -38,7 +38,7 @@ pub fn part(m: &[i32], st: &[u8], d: &mut [u64], a: usize, b: usize)
     requires plate { Plate m.now }
     requires rows { Rows m.now (edges_of m.now (remaining st.now)) d.old }
     requires a_lt_b { a < b }
-    requires mark { IsMark m.now b }
+    requires b_is_mark { IsMark m.now b }
     ensures parted { Rows m.now (edges_of m.now (remaining (set st.now (pair_number a b) 0))) d.new }
 {
     let x = remove(row(&*d, a), b);
@@ -53,7 +53,7 @@ fn join(m: &[i32], st: &[u8], d: &mut [u64], a: usize, b: usize, i: usize)
     requires clean { Clean m.now st.now }
     requires rows { Rows m.now (edges_of m.now (below i (remaining st.now))) d.old }
     requires a_lt_b { a < b }
-    requires mark { IsMark m.now b }
+    requires b_is_mark { IsMark m.now b }
     requires i_value { i ≡ pair_number a b }
     requires i_in_bounds { i < length st.now }
     ensures joined { Rows m.now (edges_of m.now (below (i + 1) (remaining st.now))) d.new }

@@ -1,4 +1,4 @@
--- What reading the input comes to. Which bytes a read puts into the buffer no contract can say, only how many there are.
+-- What reading the input comes to. Which bytes a read of standard input puts into the buffer no contract says, only how many there are.
 --   bytes_of x   how many bytes of the buffer are the input's; none where a read failed
 use Rattle.std.specs.Prelude.{ℕ}
 use Rattle.lister.specs.declared.Input.{Input}

@@ -27,8 +27,8 @@ fn put_entry(t: &mut [u64], p: usize, q: usize, s: Set)
 pub fn store_pair(m: &[i32], t: &mut [u64], a: usize, b: usize) -> Kind
     requires plate { Plate m.now }
     requires a_lt_b { a < b }
-    requires mark { IsMark m.now b }
-    requires filled_2 { Filled m.now t.old (pair_number a b) }
+    requires b_is_mark { IsMark m.now b }
+    requires filled_before { Filled m.now t.old (pair_number a b) }
     ensures kind { result ≡ kind_of m.now a b }
     ensures filled { Filled m.now t.new (pair_number a b + 1) }
 {

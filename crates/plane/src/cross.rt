@@ -7,10 +7,10 @@ use super::marks::Point;
 use super::side::{is_opposite, side};
 
 pub fn is_crossing(a: Point, b: Point, c: Point, d: Point) -> bool
-    requires in_range { InRange a }
-    requires in_range_2 { InRange b }
-    requires in_range_3 { InRange c }
-    requires in_range_4 { InRange d }
+    requires a_in_range { InRange a }
+    requires b_in_range { InRange b }
+    requires c_in_range { InRange c }
+    requires d_in_range { InRange d }
     ensures crossing { result ≡ crosses a b c d }
 {
     if !is_opposite(side(a, b, c), side(a, b, d)) {

@@ -8,9 +8,9 @@ use super::side::{is_on, side};
 
 // (a - k) · (b - k)
 fn dot(k: Point, a: Point, b: Point) -> i32
-    requires in_range { InRange k }
-    requires in_range_2 { InRange a }
-    requires in_range_3 { InRange b }
+    requires k_in_range { InRange k }
+    requires a_in_range { InRange a }
+    requires b_in_range { InRange b }
     ensures product { result ≡ dot k a b }
 {
     (a.x - k.x) * (b.x - k.x) + (a.y - k.y) * (b.y - k.y)
@@ -18,9 +18,9 @@ fn dot(k: Point, a: Point, b: Point) -> i32
 
 // Whether k, a point of the line through a and b, lies between them or at one of them.
 pub fn is_between(a: Point, b: Point, k: Point) -> bool
-    requires in_range { InRange a }
-    requires in_range_2 { InRange b }
-    requires in_range_3 { InRange k }
+    requires a_in_range { InRange a }
+    requires b_in_range { InRange b }
+    requires k_in_range { InRange k }
     ensures between { result ≡ between a b k }
 {
     dot(k, a, b) <= 0
@@ -28,9 +28,9 @@ pub fn is_between(a: Point, b: Point, k: Point) -> bool
 
 // Whether k lies on the segment from a to b, ends included.
 pub fn is_on_segment(a: Point, b: Point, k: Point) -> bool
-    requires in_range { InRange a }
-    requires in_range_2 { InRange b }
-    requires in_range_3 { InRange k }
+    requires a_in_range { InRange a }
+    requires b_in_range { InRange b }
+    requires k_in_range { InRange k }
     ensures on { result ≡ on_segment a b k }
 {
     if !is_on(side(a, b, k)) {
@@ -42,9 +42,9 @@ pub fn is_on_segment(a: Point, b: Point, k: Point) -> bool
 // Mark k is an end of (a, b), or off the segment.
 pub fn is_clear(m: &[i32], a: usize, b: usize, k: usize) -> bool
     requires plate { Plate m.now }
-    requires mark { IsMark m.now a }
-    requires mark_2 { IsMark m.now b }
-    requires mark_3 { IsMark m.now k }
+    requires a_is_mark { IsMark m.now a }
+    requires b_is_mark { IsMark m.now b }
+    requires k_is_mark { IsMark m.now k }
     ensures clear { result ≡ clear m.now a b k }
 {
     if k == a {
@@ -58,8 +58,8 @@ pub fn is_clear(m: &[i32], a: usize, b: usize, k: usize) -> bool
 
 pub fn is_empty_edge(m: &[i32], a: usize, b: usize) -> bool
     requires plate { Plate m.now }
-    requires mark { IsMark m.now a }
-    requires mark_2 { IsMark m.now b }
+    requires a_is_mark { IsMark m.now a }
+    requires b_is_mark { IsMark m.now b }
     ensures empty { result ≡ empty_edge m.now a b }
 {
     let n = count(m);

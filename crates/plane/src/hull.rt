@@ -22,9 +22,9 @@ pub enum Kind {
 // Mark k, whose side of a to b is s, lies on the segment and is no end of it.
 fn is_blocking(m: &[i32], a: usize, b: usize, k: usize, s: i32) -> bool
     requires plate { Plate m.now }
-    requires mark { IsMark m.now a }
-    requires mark_2 { IsMark m.now b }
-    requires mark_3 { IsMark m.now k }
+    requires a_is_mark { IsMark m.now a }
+    requires b_is_mark { IsMark m.now b }
+    requires k_is_mark { IsMark m.now k }
     requires s_value { s ≡ side (mark m.now a) (mark m.now b) (mark m.now k) }
     ensures blocking { result ≡ not (clear m.now a b k) }
 {
@@ -51,8 +51,8 @@ fn either(x: bool, y: bool) -> bool
 
 pub fn kind_of(m: &[i32], a: usize, b: usize) -> Kind
     requires plate { Plate m.now }
-    requires mark { IsMark m.now a }
-    requires mark_2 { IsMark m.now b }
+    requires a_is_mark { IsMark m.now a }
+    requires b_is_mark { IsMark m.now b }
     ensures kind { result ≡ kind_of m.now a b }
 {
     let n = count(m);

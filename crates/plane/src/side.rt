@@ -20,9 +20,9 @@ fn sign(z: i32) -> i32
 
 // The side test.
 pub fn side(p: Point, q: Point, r: Point) -> i32
-    requires in_range { InRange p }
-    requires in_range_2 { InRange q }
-    requires in_range_3 { InRange r }
+    requires p_in_range { InRange p }
+    requires q_in_range { InRange q }
+    requires r_in_range { InRange r }
     ensures sided { result ≡ side p q r }
 {
     sign((q.x - p.x) * (r.y - p.y) - (q.y - p.y) * (r.x - p.x))

@@ -9,10 +9,10 @@ use super::side::{is_on, is_same_side, side};
 
 // Whether k lies strictly inside the triangle p q r: on one side of p to q, of q to r and of r to p.
 pub fn is_inside(p: Point, q: Point, r: Point, k: Point) -> bool
-    requires in_range { InRange p }
-    requires in_range_2 { InRange q }
-    requires in_range_3 { InRange r }
-    requires in_range_4 { InRange k }
+    requires p_in_range { InRange p }
+    requires q_in_range { InRange q }
+    requires r_in_range { InRange r }
+    requires k_in_range { InRange k }
     ensures inside { result ≡ inside p q r k }
 {
     let s = side(p, q, k);
@@ -25,9 +25,9 @@ pub fn is_inside(p: Point, q: Point, r: Point, k: Point) -> bool
 // No mark lies strictly inside.
 pub fn is_hollow(m: &[i32], p: usize, q: usize, r: usize) -> bool
     requires plate { Plate m.now }
-    requires mark { IsMark m.now p }
-    requires mark_2 { IsMark m.now q }
-    requires mark_3 { IsMark m.now r }
+    requires p_is_mark { IsMark m.now p }
+    requires q_is_mark { IsMark m.now q }
+    requires r_is_mark { IsMark m.now r }
     ensures hollow { result ≡ hollow m.now p q r }
 {
     let n = count(m);
@@ -43,9 +43,9 @@ pub fn is_hollow(m: &[i32], p: usize, q: usize, r: usize) -> bool
 
 pub fn is_empty_triangle(m: &[i32], p: usize, q: usize, r: usize) -> bool
     requires plate { Plate m.now }
-    requires mark { IsMark m.now p }
-    requires mark_2 { IsMark m.now q }
-    requires mark_3 { IsMark m.now r }
+    requires p_is_mark { IsMark m.now p }
+    requires q_is_mark { IsMark m.now q }
+    requires r_is_mark { IsMark m.now r }
     ensures empty { result ≡ empty_triangle m.now p q r }
 {
     if is_on(side(mark(m, p), mark(m, q), mark(m, r))) {

@@ -6,8 +6,8 @@ ghost use Rattle.plane.specs.Weight.{weight};
 use super::marks::Point;
 
 pub fn weight(a: Point, b: Point) -> i32
-    requires in_range { InRange a }
-    requires in_range_2 { InRange b }
+    requires a_in_range { InRange a }
+    requires b_in_range { InRange b }
     ensures weighed { result ≡ weight a b }
 {
     let dx = b.x - a.x;

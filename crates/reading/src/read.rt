@@ -108,7 +108,7 @@ fn is_number(text: &[u8], a: usize, e: usize, most: usize) -> bool
 // The number that stands there.
 fn number(text: &[u8], a: usize, e: usize) -> u32
     requires part { Part text.now a e }
-    requires e_value { is_number 9 text.now a e ≡ true }
+    requires is_number { is_number 9 text.now a e ≡ true }
     ensures valued { result ≡ value_of text.now a e }
 {
     let n = e - a;
@@ -137,7 +137,7 @@ fn is_coordinate(text: &[u8], a: usize, e: usize) -> bool
 
 fn coordinate(text: &[u8], a: usize, e: usize) -> i32
     requires part { Part text.now a e }
-    requires e_value { is_coordinate text.now a e ≡ true }
+    requires is_coordinate { is_coordinate text.now a e ≡ true }
     ensures valued { result ≡ coordinate_of text.now a e }
 {
     if starts_with(text, a, e, b'-') {
@@ -159,7 +159,7 @@ fn is_budget(text: &[u8], a: usize, e: usize) -> bool
 
 fn budget(text: &[u8], a: usize, e: usize) -> u32
     requires part { Part text.now a e }
-    requires e_value { is_budget text.now a e ≡ true }
+    requires is_budget { is_budget text.now a e ≡ true }
     ensures valued { result ≡ budget_of text.now a e }
 {
     if is_only(text, a, e, b'-') {

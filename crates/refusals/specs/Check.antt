@@ -1,6 +1,6 @@
 -- The first four rows of 01's table, in order: the lowest number that applies is given.
 --   Row m n d                 a row of the table applies to m: number n, with detail d
---   inRange z, is_out m k     z lies from -10,000 to 10,000; number k of the list does not
+--   in_range z, is_out m k    z lies from -10,000 to 10,000; number k of the list does not
 --   first_out m               the index of the first number outside the range; the list's length where none is
 --   has_twin m j              mark j equals an earlier mark
 --   first_twin m              the smallest mark number that equals an earlier mark; n where none does

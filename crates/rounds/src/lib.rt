@@ -41,7 +41,7 @@ fn edge_byte(k: Kind) -> u8
 pub fn mark_edges(m: &[i32], st: &mut [u8], t: &mut [u64])
     requires plate { Plate m.now }
     requires st_len { length st.old ≡ pair_count (count m.now) }
-    requires filled_2 { Filled m.now t.old 0 }
+    requires filled_before { Filled m.now t.old 0 }
     ensures edges { st.new ≡ all_edges (plate m.now) }
     ensures filled { Table m.now t.new }
 {
@@ -79,10 +79,10 @@ pub struct Run {
 // Whether the empty edge (a, b) is an inner edge.
 fn is_inner(m: &[i32], t: &[u64], a: usize, b: usize) -> bool
     requires table { Table m.now t.now }
-    requires mark { IsMark m.now a }
-    requires mark_2 { IsMark m.now b }
+    requires a_is_mark { IsMark m.now a }
+    requires b_is_mark { IsMark m.now b }
     requires m_bound { count m.now ≤ 128 }
-    requires b_value { empty_edge m.now a b ≡ true }
+    requires empty { empty_edge m.now a b ≡ true }
     ensures inner { result ≡ inner_edge m.now a b }
 {
     if is_none(left_set(m, t, a, b)) {
@@ -97,7 +97,7 @@ fn is_due(m: &[i32], st: &[u8], t: &[u64], a: usize, b: usize, i: usize) -> bool
     requires clean { Clean m.now st.now }
     requires table { Table m.now t.now }
     requires a_lt_b { a < b }
-    requires mark { IsMark m.now b }
+    requires b_is_mark { IsMark m.now b }
     requires i_value { i ≡ pair_number a b }
     requires i_in_bounds { i < length st.now }
     ensures due { result ≡ due (plate m.now) (remaining st.now) i }
@@ -120,11 +120,11 @@ fn examine(
     struck: bool,
     exams: u32,
 ) -> Run
-    requires ready_2 { Ready m.now st.old t.now d.old }
+    requires ready_before { Ready m.now st.old t.now d.old }
     requires a_lt_b { a < b }
-    requires mark { IsMark m.now b }
+    requires b_is_mark { IsMark m.now b }
     requires i_value { i ≡ pair_number a b }
-    requires b_value { empty_edge m.now a b ≡ true }
+    requires empty { empty_edge m.now a b ≡ true }
     requires exams_bound { exams + 1 < 2 ^ 32 }
     ensures examined { as_state result st.new ≡ examine (plate m.now) struck exams st.old i }
     ensures ready { Ready m.now st.new t.now d.new }
@@ -165,9 +165,9 @@ fn visit(
     i: usize,
     run: Run,
 ) -> Run
-    requires ready_2 { Ready m.now st.old t.now d.old }
+    requires ready_before { Ready m.now st.old t.now d.old }
     requires a_lt_b { a < b }
-    requires mark { IsMark m.now b }
+    requires b_is_mark { IsMark m.now b }
     requires i_value { i ≡ pair_number a b }
     ensures visited { as_state result st.new ≡ visit (plate m.now) budget i (as_state run st.old) }
     ensures ready { Ready m.now st.new t.now d.new }
@@ -247,7 +247,7 @@ pub fn rounds(m: &[i32], st: &mut [u8], t: &[u64], d: &mut [u64], budget: u32) -
 fn status_byte(m: &[i32], st: &[u8], t: &[u64], d: &[u64], a: usize, b: usize, i: usize) -> u8
     requires ready { Ready m.now st.now t.now d.now }
     requires a_lt_b { a < b }
-    requires mark { IsMark m.now b }
+    requires b_is_mark { IsMark m.now b }
     requires i_value { i ≡ pair_number a b }
     ensures status { result ≡ status_byte (plate m.now) (remaining st.now) i }
 {

@@ -44,9 +44,9 @@ fn push(w: u64, x: bool) -> u64
 // the line and of the segment leave few others.
 fn is_still_clear(m: &[i32], a: usize, b: usize, k: usize, s: i32, sofar: bool) -> bool
     requires plate { Plate m.now }
-    requires mark { IsMark m.now a }
-    requires mark_2 { IsMark m.now b }
-    requires mark_3 { IsMark m.now k }
+    requires a_is_mark { IsMark m.now a }
+    requires b_is_mark { IsMark m.now b }
+    requires k_is_mark { IsMark m.now k }
     requires s_value { s ≡ side (mark m.now a) (mark m.now b) (mark m.now k) }
     ensures clear { result ≡ cond sofar (clear m.now a b k) false }
 {
@@ -68,11 +68,11 @@ fn is_still_clear(m: &[i32], a: usize, b: usize, k: usize, s: i32, sofar: bool) 
 // The marks lo to hi - 1 against the pair (a, b). From the last to the first, so that each digit is pushed below the ones before it.
 fn pass_over(m: &[i32], a: usize, b: usize, lo: usize, hi: usize) -> Pass
     requires plate { Plate m.now }
-    requires mark { IsMark m.now a }
-    requires mark_2 { IsMark m.now b }
+    requires a_is_mark { IsMark m.now a }
+    requires b_is_mark { IsMark m.now b }
     requires lo_le_hi { lo ≤ hi }
     requires hi_bound { hi ≤ count m.now }
-    requires hi_bound_2 { hi ≤ lo + 64 }
+    requires hi_near { hi ≤ lo + 64 }
     ensures passed { Passed m.now a b lo (hi - lo) result }
 {
     let p = mark(m, a);
@@ -117,8 +117,8 @@ fn and(x: bool, y: bool) -> bool
 // All marks against the pair (a, b).
 pub fn sides_of(m: &[i32], a: usize, b: usize) -> Sides
     requires plate { Plate m.now }
-    requires mark { IsMark m.now a }
-    requires mark_2 { IsMark m.now b }
+    requires a_is_mark { IsMark m.now a }
+    requires b_is_mark { IsMark m.now b }
     ensures found { Found m.now a b result }
 {
     let n = count(m);

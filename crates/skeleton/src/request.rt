@@ -139,8 +139,8 @@ fn certificate_with(m: &[i32], st: &[u8], own: &mut [u8], a: usize, b: usize) ->
     requires st_len { length st.now ≡ pair_count (count m.now) }
     requires own_len { length own.old ≡ pair_count (count m.now) }
     requires a_lt_b { a < b }
-    requires mark { IsMark m.now b }
-    requires b_value { empty_edge m.now a b ≡ true }
+    requires b_is_mark { IsMark m.now b }
+    requires empty { empty_edge m.now a b ≡ true }
     ensures first { result ≡ first_certificate m.now (edges_of m.now (remaining st.now)) a b }
 {
     let mut t = [0u64; 32768];
@@ -156,8 +156,8 @@ fn certificate_in(m: &[i32], st: &[u8], a: usize, b: usize) -> Pick
     requires plate { Plate m.now }
     requires st_len { length st.now ≡ pair_count (count m.now) }
     requires a_lt_b { a < b }
-    requires mark { IsMark m.now b }
-    requires b_value { empty_edge m.now a b ≡ true }
+    requires b_is_mark { IsMark m.now b }
+    requires empty { empty_edge m.now a b ≡ true }
     ensures first { result ≡ first_certificate m.now (edges_of m.now (remaining st.now)) a b }
 {
     let mut own = [0u8; 8128];
@@ -170,7 +170,7 @@ fn certify(m: &[i32], st: &[u8], a: usize, b: usize) -> Answer
     requires plate { Plate m.now }
     requires st_len { length st.now ≡ pair_count (count m.now) }
     requires a_lt_b { a < b }
-    requires mark { IsMark m.now b }
+    requires b_is_mark { IsMark m.now b }
     ensures answered { result ≡ answer_in m.now (edges_of m.now (remaining st.now)) a b }
 {
     let k = kind_of(m, a, b);

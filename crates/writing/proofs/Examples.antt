@@ -52,14 +52,14 @@ unfolding digits_in digits line done_text paused_text outcome_text pair_text pai
 kite = refl
 
 -- ---- "paused 12", "0 1 certain", "0 2 possible"
-paused_text_lem : List ℕ
-paused_text_lem =
+paused_listing : List ℕ
+paused_listing =
     (112 ∷ 97 ∷ 117 ∷ 115 ∷ 101 ∷ 100 ∷ 32 ∷ 49 ∷ 50 ∷ 10 ∷ [])
     ++ certain_line 48 49
     ++ (48 ∷ 32 ∷ 50 ∷ 32 ∷ 112 ∷ 111 ∷ 115 ∷ 115 ∷ 105 ∷ 98 ∷ 108 ∷ 101 ∷ 10 ∷ [])
 
-paused : listing_text false 12 (2 ∷ 1 ∷ 0 ∷ []) 3 ≡ paused_text_lem
-unfolding digits_in digits line done_text paused_text outcome_text pair_text pair_texts listing_text pair_at next_pair certain_line paused_text_lem
+paused : listing_text false 12 (2 ∷ 1 ∷ 0 ∷ []) 3 ≡ paused_listing
+unfolding digits_in digits line done_text paused_text outcome_text pair_text pair_texts listing_text pair_at next_pair certain_line paused_listing
 paused = refl
 
 -- ---- "refused 2 129"

@@ -32,9 +32,7 @@ pub offset_bounds-res-i : goal.offset_bounds-res-i
 offset_bounds-res-i c = omega arith
 
 pub bounds-res-i : goal.bounds-res-i
-bounds-res-i c =
-    let p = c.requires in
-    omega arith
+bounds-res-i c = omega arith
 
 pub overflow_add-i : goal.overflow_add-i
 overflow_add-i c = omega arith
@@ -44,8 +42,7 @@ loop-i-smaller c = omega arith
 
 pub loop-i-preserved : goal.loop-i-preserved
 loop-i-preserved c =
-    let below : c.loop-i.i < length c.args.res.now = let p = c.requires in omega arith in
-    (
+    let below : c.loop-i.i < length c.args.res.now = omega arith in (
       omega arith,
       ap (λ (x : List ℕ). set x c.loop-i.i (get_or c.args.numbers.now c.loop-i.i 0)) c.loop-i.invariant.1 ∙
           store c.args.numbers.now c.args.res.now c.loop-i.i c.loop-i-test.true below ∙

@@ -1,5 +1,4 @@
--- `put` meets its contract. The loop's invariant: the first i numbers stand at the buffer's start, and behind them what stood there.
--- Assumes nothing.
+-- The invariant of the loop of `put`: the first i numbers stand at the buffer's start, and behind them what stood there.
 use mathlib.Core.Path.{◌≡◌}
 use mathlib.Core.List.{◌++◌}
 use Prim.Native.Nat.{◌-◌, ◌≤◌}

@@ -15,9 +15,9 @@ pair_number-requires c =
 pub returns-then-is_pair : goal.returns-then-is_pair
 returns-then-is_pair c =
     let h =
-        reaches_as _
-            (ap (λ (k : ℕ). told 0 (k ∷ [])) c.pair_number.ensures.numbered ∙ sym (pair_yes _ _ (sym c.is_pair.ensures.pair ∙ c.if-is_pair.true)))
-            (c.tell.ensures.returned, c.tell.ensures.written) in
+    reaches_as _
+    (ap (λ (k : ℕ). told 0 (k ∷ [])) c.pair_number.ensures.numbered ∙ sym (pair_yes _ _ (sym c.is_pair.ensures.pair ∙ c.if-is_pair.true)))
+    (c.tell.ensures.returned, c.tell.ensures.written) in
     record { returned = h.0; written = h.1 }
 
 pub returns : goal.returns

@@ -1,4 +1,4 @@
--- `read_input` never counts past the buffer, and each turn of its loop leaves less room. Assumes nothing.
+-- The invariant of the loop of `read_input`: it never counts past the buffer. Each turn leaves less room.
 use Rattle.std.proofs.Common.{◌-◌, ◌≤◌, length}
 use Rattle.lister.proofs.read_input.Given as goal
 

@@ -31,7 +31,7 @@ meet {a} {b} {c} {k} h e f =
     (equate (a ∷ b ∷ c ∷ k ∷ []) (hyp (D 0 1 2) h.l) (hyp0 (Y 2 ⊖ Y 0) (D 0 1 3) e.z ⊹ hyp0 (Y 0 ⊖ Y 1) (D 0 2 3) f.z) (Y 3) (Y 0) tt)
 
 -- ---- by sides: with c left of a b, a point of the line with c left of a k and of k b is on the segment.
--- With D = [abc], α = [akc], β = [kbc], w = [abk], A, B, C the ways from k: D² (A-as-B) + α β |b - a|² = w ((2 (α + β) + w) A-as-B - α A-as-C - β B-as-C)
+-- With D = [abc], α = [akc], β = [kbc], w = [abk], A, B, C the ways from k: D² (A·B) + α β |b - a|² = w ((2 (α + β) + w) A·B - α A·C - β B·C)
 pub on_of : {a b c k : Point} → L a b c → Z a b k → N a k c → N k b c → On a b k
 unfolding dot
 on_of {a} {b} {c} {k} h e f g = record {
@@ -43,7 +43,7 @@ on_of {a} {b} {c} {k} h e f g = record {
       (lit (pos 0) ⊖ dot_e 3 0 1) tt);
 }
 
--- and the other way round: c is not right of a k. Were it so, β (α² + (A-as-C)²) + (-α) (-(A-as-B)) |C|² = - w (A-as-C) |C|²
+-- and the other way round: c is not right of a k. Were it so, β (α² + (A·C)²) + (-α) (-(A·B)) |C|² = - w (A·C) |C|²
 on_near : {a b c k : Point} → L a b c → On a b k → N a k c
 unfolding dot
 on_near {a} {b} {c} {k} h o = go half

@@ -1,4 +1,4 @@
--- `load_marks` is safe and ends. Assumes nothing.
+-- The invariant of the loop of `load_marks`: the list keeps its ten numbers.
 use mathlib.Core.Path.{◌≡◌}
 use Prim.Native.Nat.{◌-◌, ◌≤◌}
 use lib.ListN.{length}

@@ -1,4 +1,4 @@
--- `refusals::first_out` meets its contract. The invariant: the numbers passed are in range. Assumes nothing.
+-- The invariant of the loop of `refusals::first_out`: the numbers passed are in range.
 use mathlib.Core.Path.{◌≡◌}
 use mathlib.Core.Bool.{false}
 use Prim.Native.Nat.{ℕ, ◌-◌, ◌≤◌, ◌<◌}

@@ -1,4 +1,4 @@
--- `refusals::first_twin` meets its contract. The invariant: the marks passed equal no earlier one. Assumes nothing.
+-- The invariant of the loop of `refusals::first_twin`: the marks passed equal no earlier one.
 use mathlib.Core.Path.{◌≡◌}
 use mathlib.Core.Bool.{false}
 use Prim.Native.Nat.{ℕ, ◌-◌, ◌≤◌, ◌<◌}

@@ -1,4 +1,4 @@
--- `refusals::has_twin` meets its contract. The invariant: the marks passed differ from mark j. Assumes nothing.
+-- The invariant of the loop of `refusals::has_twin`: the marks passed differ from mark j.
 use mathlib.Core.Path.{◌≡◌}
 use mathlib.Core.Bool.{true}
 use Prim.Native.Nat.{◌-◌, ◌≤◌}

@@ -9,21 +9,13 @@ pub loop-k-init : goal.loop-k-init
 loop-k-init c = (search rules, filling_none _ _)
 
 pub bounds-st-k : goal.bounds-st-k
-bounds-st-k c =
-    let s = c.loop-k.invariant.1.size in
-    omega arith
+bounds-st-k c = omega arith
 
 pub loop-k-smaller : goal.loop-k-smaller
-loop-k-smaller c =
-    let s = c.loop-k.invariant.1.size in
-    omega arith
+loop-k-smaller c = omega arith
 
 pub loop-k-preserved : goal.loop-k-preserved
-loop-k-preserved c =
-    let s = c.loop-k.invariant.1.size in
-    (omega arith, filling_next c.loop-k.invariant.1 255 (omega arith) refl)
+loop-k-preserved c = (omega arith, filling_next c.loop-k.invariant.1 255 (omega arith) refl)
 
 pub returns : goal.returns
-returns c =
-    let s = c.loop-k.invariant.1.size in
-    record { blank = filling_one c.loop-k.invariant.1 (omega arith) }
+returns c = record { blank = filling_one c.loop-k.invariant.1 (omega arith) }

@@ -1,4 +1,4 @@
--- `rounds::blank` meets its contract. The invariant: the bytes below k are 255. Assumes nothing.
+-- The invariant of the loop of `rounds::blank`: the bytes below k are 255.
 use Prim.Native.Nat.{◌-◌, ◌≤◌}
 use lib.ListN.{length}
 use Rattle.rounds.proofs.Filling.{Filling}

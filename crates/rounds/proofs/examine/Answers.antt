@@ -1,6 +1,5 @@
 -- `rounds::examine` meets its contract: each way out is a step of the search. Assumes nothing.
 use mathlib.Core.Path.{sym, ◌∙◌, ap}
-use borrow.Author.Tests.{not-true, not-false}
 use Rattle.striking.specs.System.{crossed}
 use Rattle.striking.specs.Status.{remaining}
 use Rattle.certificates.specs.Plate.{plate}
@@ -10,22 +9,22 @@ use Rattle.rounds.proofs.Readiness.{ready_struck, ready_place}
 use Rattle.rounds.proofs.examine.Goals as goal
 
 pub first_certificate-c-requires-clause-plate : goal.first_certificate-c-requires-clause-plate
-first_certificate-c-requires-clause-plate c = c.requires.ready_2.accepted
+first_certificate-c-requires-clause-plate c = c.requires.ready_before.accepted
 
 pub first_certificate-c-requires-clause-table : goal.first_certificate-c-requires-clause-table
-first_certificate-c-requires-clause-table c = c.requires.ready_2.table
+first_certificate-c-requires-clause-table c = c.requires.ready_before.table
 
 pub first_certificate-c-requires-clause-rows : goal.first_certificate-c-requires-clause-rows
-first_certificate-c-requires-clause-rows c = c.requires.ready_2.rows
+first_certificate-c-requires-clause-rows c = c.requires.ready_before.rows
 
 pub first_certificate-c-requires-clause-p_lt_q : goal.first_certificate-c-requires-clause-p_lt_q
 first_certificate-c-requires-clause-p_lt_q c = c.requires.a_lt_b
 
-pub first_certificate-c-requires-clause-mark : goal.first_certificate-c-requires-clause-mark
-first_certificate-c-requires-clause-mark c = c.requires.mark
+pub first_certificate-c-requires-clause-q_is_mark : goal.first_certificate-c-requires-clause-q_is_mark
+first_certificate-c-requires-clause-q_is_mark c = c.requires.b_is_mark
 
-pub first_certificate-c-requires-clause-q_value : goal.first_certificate-c-requires-clause-q_value
-first_certificate-c-requires-clause-q_value c = c.requires.b_value
+pub first_certificate-c-requires-clause-empty : goal.first_certificate-c-requires-clause-empty
+first_certificate-c-requires-clause-empty c = c.requires.empty
 
 pub returns-in_default-clause-examined : goal.returns-in_default-clause-examined
 unfolding as_state state_by
@@ -35,25 +34,25 @@ returns-in_default-clause-examined c =
 
 pub returns-in_default-clause-ready : goal.returns-in_default-clause-ready
 unfolding as_state state_by
-returns-in_default-clause-ready c = c.requires.ready_2
+returns-in_default-clause-ready c = c.requires.ready_before
 
 pub is_crossed-requires-clause-plate : goal.is_crossed-requires-clause-plate
-is_crossed-requires-clause-plate c = c.requires.ready_2.accepted
+is_crossed-requires-clause-plate c = c.requires.ready_before.accepted
 
 pub is_crossed-requires-clause-table : goal.is_crossed-requires-clause-table
-is_crossed-requires-clause-table c = c.requires.ready_2.table
+is_crossed-requires-clause-table c = c.requires.ready_before.table
 
 pub is_crossed-requires-clause-clean : goal.is_crossed-requires-clause-clean
-is_crossed-requires-clause-clean c = c.requires.ready_2.clean
+is_crossed-requires-clause-clean c = c.requires.ready_before.clean
 
 pub is_crossed-requires-clause-rows : goal.is_crossed-requires-clause-rows
-is_crossed-requires-clause-rows c = c.requires.ready_2.rows
+is_crossed-requires-clause-rows c = c.requires.ready_before.rows
 
 pub is_crossed-requires-clause-p_lt_q : goal.is_crossed-requires-clause-p_lt_q
 is_crossed-requires-clause-p_lt_q c = c.requires.a_lt_b
 
-pub is_crossed-requires-clause-mark : goal.is_crossed-requires-clause-mark
-is_crossed-requires-clause-mark c = c.requires.mark
+pub is_crossed-requires-clause-q_is_mark : goal.is_crossed-requires-clause-q_is_mark
+is_crossed-requires-clause-q_is_mark c = c.requires.b_is_mark
 
 pub returns-then-not-is_crossed-clause-examined : goal.returns-then-not-is_crossed-clause-examined
 unfolding as_state state_by as_final outcome_by
@@ -65,22 +64,22 @@ returns-then-not-is_crossed-clause-examined c =
 
 pub returns-then-not-is_crossed-clause-ready : goal.returns-then-not-is_crossed-clause-ready
 unfolding as_state state_by as_final outcome_by
-returns-then-not-is_crossed-clause-ready c = c.requires.ready_2
+returns-then-not-is_crossed-clause-ready c = c.requires.ready_before
 
 pub part-requires-clause-plate : goal.part-requires-clause-plate
-part-requires-clause-plate c = c.requires.ready_2.accepted
+part-requires-clause-plate c = c.requires.ready_before.accepted
 
 pub part-requires-clause-rows : goal.part-requires-clause-rows
-part-requires-clause-rows c = c.requires.ready_2.rows
+part-requires-clause-rows c = c.requires.ready_before.rows
 
 pub part-requires-clause-a_lt_b : goal.part-requires-clause-a_lt_b
 part-requires-clause-a_lt_b c = c.requires.a_lt_b
 
-pub part-requires-clause-mark : goal.part-requires-clause-mark
-part-requires-clause-mark c = c.requires.mark
+pub part-requires-clause-b_is_mark : goal.part-requires-clause-b_is_mark
+part-requires-clause-b_is_mark c = c.requires.b_is_mark
 
 pub bounds-st-i : goal.bounds-st-i
-bounds-st-i c = ready_place c.requires.ready_2 c.requires.a_lt_b c.requires.mark c.requires.i_value
+bounds-st-i c = ready_place c.requires.ready_before c.requires.a_lt_b c.requires.b_is_mark c.requires.i_value
 
 pub returns-clause-examined : goal.returns-clause-examined
 unfolding as_state state_by
@@ -93,4 +92,4 @@ returns-clause-examined c =
 pub returns-clause-ready : goal.returns-clause-ready
 unfolding as_state state_by
 returns-clause-ready c =
-    ready_struck c.args.a c.args.b c.args.i c.requires.i_value c.requires.ready_2 c.part.ensures.parted
+    ready_struck c.args.a c.args.b c.args.i c.requires.i_value c.requires.ready_before c.part.ensures.parted

@@ -16,21 +16,18 @@ returns-then-st-i-eq0 c = record { due = sym (cond_no _ _ (remaining_not _ _ c.i
 pub is_inner-requires-clause-table : goal.is_inner-requires-clause-table
 is_inner-requires-clause-table c = c.requires.table
 
-pub is_inner-requires-clause-mark : goal.is_inner-requires-clause-mark
-is_inner-requires-clause-mark c =
-    let h = c.requires in
-    let k = c.requires.mark in
-    omega arith
+pub is_inner-requires-clause-a_is_mark : goal.is_inner-requires-clause-a_is_mark
+is_inner-requires-clause-a_is_mark c = omega arith
 
-pub is_inner-requires-clause-mark_2 : goal.is_inner-requires-clause-mark_2
-is_inner-requires-clause-mark_2 c = c.requires.mark
+pub is_inner-requires-clause-b_is_mark : goal.is_inner-requires-clause-b_is_mark
+is_inner-requires-clause-b_is_mark c = c.requires.b_is_mark
 
 pub is_inner-requires-clause-m_bound : goal.is_inner-requires-clause-m_bound
 is_inner-requires-clause-m_bound c = c.requires.plate.few
 
-pub is_inner-requires-clause-b_value : goal.is_inner-requires-clause-b_value
-is_inner-requires-clause-b_value c =
-    c.requires.clean.edges _ _ c.requires.a_lt_b c.requires.mark
+pub is_inner-requires-clause-empty : goal.is_inner-requires-clause-empty
+is_inner-requires-clause-empty c =
+    c.requires.clean.edges _ _ c.requires.a_lt_b c.requires.b_is_mark
     (ap (remaining _) (sym c.requires.i_value) ∙ remaining_yes _ _ c.if-st-i-eq0.false)
 
 pub returns : goal.returns
@@ -39,6 +36,6 @@ returns c = record {
   due =
       c.is_inner.ensures.inner ∙
       sym
-      (ap (plate c.args.m.now).inner c.requires.i_value ∙ inner_at _ _ _ (record { up = c.requires.a_lt_b; marks = c.requires.mark })) ∙
+      (ap (plate c.args.m.now).inner c.requires.i_value ∙ inner_at _ _ _ (record { up = c.requires.a_lt_b; marks = c.requires.b_is_mark })) ∙
       sym (cond_yes _ _ (remaining_yes _ _ c.if-st-i-eq0.false));
 }

@@ -14,59 +14,41 @@ use Rattle.std.proofs.Common.{rules}
 use Rattle.rounds.proofs.mark_edges.Goals as goal
 
 pub loop-i-init : goal.loop-i-init
-loop-i-init c = (search rules, pair_at_first, filling_none _ _, c.requires.filled_2)
+loop-i-init c = (search rules, pair_at_first, filling_none _ _, c.requires.filled_before)
 
 pub store_pair-requires-clause-plate : goal.store_pair-requires-clause-plate
 store_pair-requires-clause-plate c = c.requires.plate
 
 pub store_pair-requires-clause-a_lt_b : goal.store_pair-requires-clause-a_lt_b
 store_pair-requires-clause-a_lt_b c =
-    let q = c.loop-i.invariant.2.size in
-    let n = c.requires.st_len in
     let g = place c.args.m.now _ c.loop-i.invariant.1 (omega arith) in
     g.up
 
-pub store_pair-requires-clause-mark : goal.store_pair-requires-clause-mark
-store_pair-requires-clause-mark c =
-    let q = c.loop-i.invariant.2.size in
-    let n = c.requires.st_len in
+pub store_pair-requires-clause-b_is_mark : goal.store_pair-requires-clause-b_is_mark
+store_pair-requires-clause-b_is_mark c =
     let g = place c.args.m.now _ c.loop-i.invariant.1 (omega arith) in
     g.mark
 
-pub store_pair-requires-clause-filled_2 : goal.store_pair-requires-clause-filled_2
-store_pair-requires-clause-filled_2 c =
-    let q = c.loop-i.invariant.2.size in
-    let n = c.requires.st_len in
+pub store_pair-requires-clause-filled_before : goal.store_pair-requires-clause-filled_before
+store_pair-requires-clause-filled_before c =
     let g = place c.args.m.now _ c.loop-i.invariant.1 (omega arith) in
     subst (λ (x : ℕ). Filled c.args.m.now c.loop-i.t x) g.number c.loop-i.invariant.3
 
 pub next_pair-p-requires-clause-a_lt_b : goal.next_pair-p-requires-clause-a_lt_b
 next_pair-p-requires-clause-a_lt_b c =
-    let q = c.loop-i.invariant.2.size in
-    let n = c.requires.st_len in
     let g = place c.args.m.now _ c.loop-i.invariant.1 (omega arith) in
     g.up
 
 pub next_pair-p-requires-clause-b_bound : goal.next_pair-p-requires-clause-b_bound
 next_pair-p-requires-clause-b_bound c =
-    let q = c.loop-i.invariant.2.size in
-    let n = c.requires.st_len in
     let g = place c.args.m.now _ c.loop-i.invariant.1 (omega arith) in
-    let f = c.requires.plate.few in
-    let k = g.mark in
     omega arith
 
 pub loop-i-smaller : goal.loop-i-smaller
-loop-i-smaller c =
-    let m = c.args.m.now in
-    let q = c.loop-i.invariant.2.size in
-    let n = c.requires.st_len in
-    omega arith
+loop-i-smaller c = omega arith
 
 pub loop-i-preserved : goal.loop-i-preserved
 loop-i-preserved c =
-    let q = c.loop-i.invariant.2.size in
-    let n = c.requires.st_len in
     let g = place c.args.m.now _ c.loop-i.invariant.1 (omega arith) in (
       omega arith,
       pair_at_next _ c.next_pair-p.ensures.next c.loop-i.invariant.1,
@@ -77,12 +59,9 @@ loop-i-preserved c =
 
 pub returns-clause-edges : goal.returns-clause-edges
 unfolding all_edges plate
-returns-clause-edges c =
-    let q = c.loop-i.invariant.2.size in
-    filling_end c.loop-i.invariant.2 _ c.requires.st_len (omega arith)
+returns-clause-edges c = filling_end c.loop-i.invariant.2 _ c.requires.st_len (omega arith)
 
 pub returns-clause-filled : goal.returns-clause-filled
 unfolding all_edges plate
 returns-clause-filled c =
-    let q = c.loop-i.invariant.2.size in
     fill_end (subst (λ (x : ℕ). Filled c.args.m.now c.loop-i.t x) (omega arith) c.loop-i.invariant.3)

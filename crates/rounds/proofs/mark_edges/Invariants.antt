@@ -1,4 +1,4 @@
--- `rounds::mark_edges` meets its contract. The invariant: below pair i the bytes and the table are written. Assumes nothing.
+-- The invariant of the loop of `rounds::mark_edges`: below pair i the bytes and the table are written.
 use mathlib.Core.Path.{◌≡◌}
 use mathlib.Core.Bool.{cond}
 use Prim.Native.Nat.{◌-◌, ◌≤◌}

@@ -15,73 +15,48 @@ pub loop-i-init : goal.loop-i-init
 unfolding as_state state_by
 loop-i-init c = (search rules, pair_at_first, c.requires, sym (visits_none _ _ _))
 
-pub visit-run-requires-clause-ready_2 : goal.visit-run-requires-clause-ready_2
-visit-run-requires-clause-ready_2 c =
-    let r = c.loop-i.invariant.2 in
-    let q = r.long in
-    let n = c.requires.long in
-    let g = place c.args.m.now _ c.loop-i.invariant.1 (omega arith) in
-    r
+pub visit-run-requires-clause-ready_before : goal.visit-run-requires-clause-ready_before
+visit-run-requires-clause-ready_before c = c.loop-i.invariant.2
 
 pub visit-run-requires-clause-a_lt_b : goal.visit-run-requires-clause-a_lt_b
 visit-run-requires-clause-a_lt_b c =
-    let q = c.loop-i.invariant.2.long in
-    let n = c.requires.long in
     let g = place c.args.m.now _ c.loop-i.invariant.1 (omega arith) in
     g.up
 
-pub visit-run-requires-clause-mark : goal.visit-run-requires-clause-mark
-visit-run-requires-clause-mark c =
-    let q = c.loop-i.invariant.2.long in
-    let n = c.requires.long in
+pub visit-run-requires-clause-b_is_mark : goal.visit-run-requires-clause-b_is_mark
+visit-run-requires-clause-b_is_mark c =
     let g = place c.args.m.now _ c.loop-i.invariant.1 (omega arith) in
     g.mark
 
 pub visit-run-requires-clause-i_value : goal.visit-run-requires-clause-i_value
 visit-run-requires-clause-i_value c =
-    let q = c.loop-i.invariant.2.long in
-    let n = c.requires.long in
     let g = place c.args.m.now _ c.loop-i.invariant.1 (omega arith) in
     g.number
 
 pub next_pair-p-requires-clause-a_lt_b : goal.next_pair-p-requires-clause-a_lt_b
 next_pair-p-requires-clause-a_lt_b c =
-    let q = c.loop-i.invariant.2.long in
-    let n = c.requires.long in
     let g = place c.args.m.now _ c.loop-i.invariant.1 (omega arith) in
     g.up
 
 pub next_pair-p-requires-clause-b_bound : goal.next_pair-p-requires-clause-b_bound
 next_pair-p-requires-clause-b_bound c =
-    let q = c.loop-i.invariant.2.long in
-    let n = c.requires.long in
     let g = place c.args.m.now _ c.loop-i.invariant.1 (omega arith) in
-    let f = c.requires.accepted.few in
-    let k = g.mark in
     omega arith
 
 pub loop-i-smaller : goal.loop-i-smaller
-loop-i-smaller c =
-    let m = c.args.m.now in
-    let q = c.loop-i.invariant.2.long in
-    let n = c.requires.long in
-    omega arith
+loop-i-smaller c = omega arith
 
 pub loop-i-preserved : goal.loop-i-preserved
-loop-i-preserved c =
-    let q = c.loop-i.invariant.2.long in
-    let n = c.requires.long in (
-      omega arith,
-      pair_at_next _ c.next_pair-p.ensures.next c.loop-i.invariant.1,
-      c.visit-run.ensures.ready,
-      c.visit-run.ensures.visited ∙ ap (visit (plate c.args.m.now) c.args.budget c.loop-i.i) c.loop-i.invariant.3 ∙
-          sym (visits_more _ _ c.loop-i.i _),
-    )
+loop-i-preserved c = (
+  omega arith,
+  pair_at_next _ c.next_pair-p.ensures.next c.loop-i.invariant.1,
+  c.visit-run.ensures.ready,
+  c.visit-run.ensures.visited ∙ ap (visit (plate c.args.m.now) c.args.budget c.loop-i.i) c.loop-i.invariant.3 ∙
+      sym (visits_more _ _ c.loop-i.i _),
+)
 
 pub returns-clause-visited : goal.returns-clause-visited
 returns-clause-visited c =
-    let q = c.loop-i.invariant.2.long in
-    let n = c.requires.long in
     c.loop-i.invariant.3 ∙
     ap (λ (x : ℕ). visits (plate c.args.m.now) c.args.budget x (going false c.args.exams c.args.st.now))
     (omega arith)

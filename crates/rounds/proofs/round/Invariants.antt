@@ -1,4 +1,4 @@
--- `rounds::round` meets its contract. The invariant: the pairs below i have had their turns, and the buffers are ready. Assumes nothing.
+-- The invariant of the loop of `rounds::round`: the pairs below i have had their turns, and the buffers are ready.
 use mathlib.Core.Path.{◌≡◌}
 use mathlib.Core.Bool.{false}
 use Prim.Native.Nat.{◌-◌, ◌≤◌}

@@ -13,11 +13,11 @@ use Rattle.rounds.proofs.rounds.Goals as goal
 falls : (n e d : ℕ) → e < d → d ≤ n → n - d < n - e
 falls n e d h k = omega arith
 
-fuel-left : (n e d f : ℕ) → e < d → d ≤ n → n - e ≤ f → suc (f - 1) ≡ f
-fuel-left n e d f h k l = omega arith
+fuel_left : (n e d f : ℕ) → e < d → d ≤ n → n - e ≤ f → suc (f - 1) ≡ f
+fuel_left n e d f h k l = omega arith
 
-fuel-enough : (n e d f : ℕ) → e < d → d ≤ n → n - e ≤ f → n - d ≤ f - 1
-fuel-enough n e d f h k l = omega arith
+fuel_enough : (n e d f : ℕ) → e < d → d ≤ n → n - e ≤ f → n - d ≤ f - 1
+fuel_enough n e d f h k l = omega arith
 
 pub loop-run-init : goal.loop-run-init
 unfolding search_from
@@ -61,11 +61,11 @@ loop-run-preserved c =
     let g =
     round_cost _ _ c.loop-run.invariant.2 _ _ _ _ c.round-run.ensures.visited c.in-Going.is c.loop-run.invariant.0
     (not-false _ c.if-not-run.false) in
-    let e : suc (c.loop-run.invariant.2 - 1) ≡ c.loop-run.invariant.2 = fuel-left _ _ _ _ g.0 g.1 c.loop-run.invariant.3 in (
+    let e : suc (c.loop-run.invariant.2 - 1) ≡ c.loop-run.invariant.2 = fuel_left _ _ _ _ g.0 g.1 c.loop-run.invariant.3 in (
       g.1,
       c.round-run.ensures.ready,
       c.loop-run.invariant.2 - 1,
-      fuel-enough _ _ _ _ g.0 g.1 c.loop-run.invariant.3,
+      fuel_enough _ _ _ _ g.0 g.1 c.loop-run.invariant.3,
       rw e (rounds_again _ _ c.loop-run.invariant.2 _ _ _ _ c.round-run.ensures.visited c.in-Going.is
           (not-false _ c.if-not-run.false) ∙ c.loop-run.invariant.4),
     )

@@ -1,4 +1,4 @@
--- `rounds::rounds` meets its contract. The invariant: the rounds that are left end as the whole search does, with fuel to spare. Assumes nothing.
+-- The invariant of the loop of `rounds::rounds`: the rounds that are left end as the whole search does, with fuel to spare.
 use mathlib.Core.Path.{◌≡◌}
 use Prim.Native.Nat.{ℕ, suc, ◌-◌, ◌≤◌}
 use Rattle.striking.specs.Search.{rounds, search_from}

@@ -20,59 +20,41 @@ status_byte-x-requires-clause-ready c =
 
 pub status_byte-x-requires-clause-a_lt_b : goal.status_byte-x-requires-clause-a_lt_b
 status_byte-x-requires-clause-a_lt_b c =
-    let n = c.requires.long in
     let g = place c.args.m.now _ c.loop-i.invariant.1 (omega arith) in
     g.up
 
-pub status_byte-x-requires-clause-mark : goal.status_byte-x-requires-clause-mark
-status_byte-x-requires-clause-mark c =
-    let n = c.requires.long in
+pub status_byte-x-requires-clause-b_is_mark : goal.status_byte-x-requires-clause-b_is_mark
+status_byte-x-requires-clause-b_is_mark c =
     let g = place c.args.m.now _ c.loop-i.invariant.1 (omega arith) in
     g.mark
 
 pub status_byte-x-requires-clause-i_value : goal.status_byte-x-requires-clause-i_value
 status_byte-x-requires-clause-i_value c =
-    let n = c.requires.long in
     let g = place c.args.m.now _ c.loop-i.invariant.1 (omega arith) in
     g.number
 
 pub next_pair-p-requires-clause-a_lt_b : goal.next_pair-p-requires-clause-a_lt_b
 next_pair-p-requires-clause-a_lt_b c =
-    let q = c.loop-i.invariant.2.size in
-    let n = c.requires.long in
     let g = place c.args.m.now _ c.loop-i.invariant.1 (omega arith) in
     g.up
 
 pub next_pair-p-requires-clause-b_bound : goal.next_pair-p-requires-clause-b_bound
 next_pair-p-requires-clause-b_bound c =
-    let q = c.loop-i.invariant.2.size in
-    let n = c.requires.long in
     let g = place c.args.m.now _ c.loop-i.invariant.1 (omega arith) in
-    let f = c.requires.accepted.few in
-    let k = g.mark in
     omega arith
 
 pub loop-i-smaller : goal.loop-i-smaller
-loop-i-smaller c =
-    let m = c.args.m.now in
-    let q = c.loop-i.invariant.2.size in
-    let n = c.requires.long in
-    omega arith
+loop-i-smaller c = omega arith
 
 pub loop-i-preserved : goal.loop-i-preserved
-loop-i-preserved c =
-    let q = c.loop-i.invariant.2.size in
-    let n = c.requires.long in (
-      omega arith,
-      pair_at_next _ c.next_pair-p.ensures.next c.loop-i.invariant.1,
-      filling_next c.loop-i.invariant.2 _ (omega arith) (c.status_byte-x.ensures.status ∙ ap
-          (λ (S : ℕ → Bool). status_byte (plate c.args.m.now) S c.loop-i.i)
-          (status_remaining (plate c.args.m.now) c.loop-i.invariant.2)),
-    )
+loop-i-preserved c = (
+  omega arith,
+  pair_at_next _ c.next_pair-p.ensures.next c.loop-i.invariant.1,
+  filling_next c.loop-i.invariant.2 _ (omega arith) (c.status_byte-x.ensures.status ∙ ap
+      (λ (S : ℕ → Bool). status_byte (plate c.args.m.now) S c.loop-i.i)
+      (status_remaining (plate c.args.m.now) c.loop-i.invariant.2)),
+)
 
 pub returns : goal.returns
 unfolding statuses plate
-returns c =
-    let m = c.args.m.now in
-    let q = c.loop-i.invariant.2.size in
-    record { shown = filling_end c.loop-i.invariant.2 _ c.requires.long (omega arith) }
+returns c = record { shown = filling_end c.loop-i.invariant.2 _ c.requires.long (omega arith) }

@@ -1,4 +1,4 @@
--- `rounds::show` meets its contract. The invariant: below pair i the statuses are written, and the same pairs remain. Assumes nothing.
+-- The invariant of the loop of `rounds::show`: below pair i the statuses are written, and the same pairs remain.
 use mathlib.Core.Path.{◌≡◌}
 use Prim.Native.Nat.{◌-◌, ◌≤◌}
 use lib.ListN.{length}

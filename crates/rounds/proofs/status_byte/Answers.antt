@@ -9,7 +9,7 @@ use Rattle.certificates.specs.Plate.{plate}
 use Rattle.rounds.proofs.status_byte.Goals as goal
 
 pub bounds-st-i : goal.bounds-st-i
-bounds-st-i c = ready_place c.requires.ready c.requires.a_lt_b c.requires.mark c.requires.i_value
+bounds-st-i c = ready_place c.requires.ready c.requires.a_lt_b c.requires.b_is_mark c.requires.i_value
 
 pub returns-then-st-i-eq0 : goal.returns-then-st-i-eq0
 unfolding status_byte
@@ -30,8 +30,8 @@ is_crossed-requires-clause-rows c = c.requires.ready.rows
 pub is_crossed-requires-clause-p_lt_q : goal.is_crossed-requires-clause-p_lt_q
 is_crossed-requires-clause-p_lt_q c = c.requires.a_lt_b
 
-pub is_crossed-requires-clause-mark : goal.is_crossed-requires-clause-mark
-is_crossed-requires-clause-mark c = c.requires.mark
+pub is_crossed-requires-clause-q_is_mark : goal.is_crossed-requires-clause-q_is_mark
+is_crossed-requires-clause-q_is_mark c = c.requires.b_is_mark
 
 pub returns-then-is_crossed : goal.returns-then-is_crossed
 unfolding status_byte

@@ -1,7 +1,6 @@
 -- `rounds::visit` meets its contract: each way out is a turn of the round. Assumes nothing.
 use mathlib.Core.Path.{sym, ◌∙◌}
 use native.Mathlib.Omega.{arith}
-use borrow.Author.Tests.{not-true, not-false}
 use Rattle.certificates.specs.Plate.{plate}
 use Rattle.rounds.specs.Run.{as_state, state_by, as_final, outcome_by}
 use Rattle.rounds.proofs.Turns.{turn_over, turn_passes, turn_examines, turn_pauses}
@@ -13,29 +12,29 @@ returns-in_default-clause-visited c =
     turn_over (plate c.args.m.now) c.args.budget c.args.i c.args.run c.args.st.now c.in_default.not-Going
 
 pub returns-in_default-clause-ready : goal.returns-in_default-clause-ready
-returns-in_default-clause-ready c = c.requires.ready_2
+returns-in_default-clause-ready c = c.requires.ready_before
 
 pub is_due-requires-clause-plate : goal.is_due-requires-clause-plate
-is_due-requires-clause-plate c = c.requires.ready_2.accepted
+is_due-requires-clause-plate c = c.requires.ready_before.accepted
 
 pub is_due-requires-clause-clean : goal.is_due-requires-clause-clean
-is_due-requires-clause-clean c = c.requires.ready_2.clean
+is_due-requires-clause-clean c = c.requires.ready_before.clean
 
 pub is_due-requires-clause-table : goal.is_due-requires-clause-table
-is_due-requires-clause-table c = c.requires.ready_2.table
+is_due-requires-clause-table c = c.requires.ready_before.table
 
 pub is_due-requires-clause-a_lt_b : goal.is_due-requires-clause-a_lt_b
 is_due-requires-clause-a_lt_b c = c.requires.a_lt_b
 
-pub is_due-requires-clause-mark : goal.is_due-requires-clause-mark
-is_due-requires-clause-mark c = c.requires.mark
+pub is_due-requires-clause-b_is_mark : goal.is_due-requires-clause-b_is_mark
+is_due-requires-clause-b_is_mark c = c.requires.b_is_mark
 
 pub is_due-requires-clause-i_value : goal.is_due-requires-clause-i_value
 is_due-requires-clause-i_value c = c.requires.i_value
 
 pub is_due-requires-clause-i_in_bounds : goal.is_due-requires-clause-i_in_bounds
 is_due-requires-clause-i_in_bounds c =
-    ready_place c.requires.ready_2 c.requires.a_lt_b c.requires.mark c.requires.i_value
+    ready_place c.requires.ready_before c.requires.a_lt_b c.requires.b_is_mark c.requires.i_value
 
 pub returns-then-not-is_due-clause-visited : goal.returns-then-not-is_due-clause-visited
 returns-then-not-is_due-clause-visited c =
@@ -43,34 +42,27 @@ returns-then-not-is_due-clause-visited c =
     (sym c.is_due.ensures.due ∙ c.if-not-is_due.true)
 
 pub returns-then-not-is_due-clause-ready : goal.returns-then-not-is_due-clause-ready
-returns-then-not-is_due-clause-ready c = c.requires.ready_2
+returns-then-not-is_due-clause-ready c = c.requires.ready_before
 
-pub examine-requires-clause-ready_2 : goal.examine-requires-clause-ready_2
-examine-requires-clause-ready_2 c = c.requires.ready_2
+pub examine-requires-clause-ready_before : goal.examine-requires-clause-ready_before
+examine-requires-clause-ready_before c = c.requires.ready_before
 
 pub examine-requires-clause-a_lt_b : goal.examine-requires-clause-a_lt_b
 examine-requires-clause-a_lt_b c = c.requires.a_lt_b
 
-pub examine-requires-clause-mark : goal.examine-requires-clause-mark
-examine-requires-clause-mark c = c.requires.mark
+pub examine-requires-clause-b_is_mark : goal.examine-requires-clause-b_is_mark
+examine-requires-clause-b_is_mark c = c.requires.b_is_mark
 
 pub examine-requires-clause-i_value : goal.examine-requires-clause-i_value
 examine-requires-clause-i_value c = c.requires.i_value
 
-pub examine-requires-clause-b_value : goal.examine-requires-clause-b_value
-examine-requires-clause-b_value c =
-    due_edge c.requires.ready_2 c.requires.a_lt_b c.requires.mark c.requires.i_value
+pub examine-requires-clause-empty : goal.examine-requires-clause-empty
+examine-requires-clause-empty c =
+    due_edge c.requires.ready_before c.requires.a_lt_b c.requires.b_is_mark c.requires.i_value
     (sym c.is_due.ensures.due ∙ c.if-not-is_due.false)
 
 pub examine-requires-clause-exams_bound : goal.examine-requires-clause-exams_bound
-examine-requires-clause-exams_bound c =
-    let a = c.args in
-    let h = c.requires in
-    let r = c.requires.ready_2 in
-    let u = c.requires.a_lt_b in
-    let k = c.requires.mark in
-    let e = c.requires.i_value in
-    omega arith
+examine-requires-clause-exams_bound c = omega arith
 
 pub returns-then-exams-budget-clause-visited : goal.returns-then-exams-budget-clause-visited
 returns-then-exams-budget-clause-visited c =
@@ -89,4 +81,4 @@ returns-clause-visited c =
 
 pub returns-clause-ready : goal.returns-clause-ready
 unfolding as_state state_by as_final outcome_by
-returns-clause-ready c = c.requires.ready_2
+returns-clause-ready c = c.requires.ready_before

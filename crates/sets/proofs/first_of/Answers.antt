@@ -1,4 +1,4 @@
--- `sets::first_so_far` meets its contract. The lowest digit of the low word, or of the high word where the low one is 0, is the first. Assumes nothing.
+-- `sets::first_of` meets its contract. The lowest digit of the low word, or of the high word where the low one is 0, is the first. Assumes nothing.
 use native.Mathlib.Omega.{arith}
 use lib.Count.{trailing_le}
 use Rattle.sets.proofs.Laws.Sets.{first_low, first_high}

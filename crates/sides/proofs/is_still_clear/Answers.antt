@@ -1,7 +1,6 @@
 -- `sides::is_still_clear` meets its contract. A mark off the line, one of the line that is off the segment, and an end of it leave the edge as it was. Assumes nothing.
 use mathlib.Core.Path.{◌≡◌, refl, sym, ap, ◌∙◌, subst}
 use mathlib.Core.Bool.{Bool, true, false, not, cond}
-use borrow.Author.Tests.{not-true, not-false}
 use Rattle.plane.specs.Marks.{InRange}
 use Rattle.plane.specs.Side.{is_on}
 use Rattle.plane.specs.Edge.{between}
@@ -21,28 +20,22 @@ stops true c e = sym e
 stops false c e = refl
 
 pub returns-then-not-is_on : goal.returns-then-not-is_on
-returns-then-not-is_on c =
-    let s = c in
-    record {
-      clear =
-          stays _ _ (clear_off _ _ _ _ (sym (side_on _ _ _) ∙ ap is_on
-          (sym s.requires.s_value ∙ sym (back s.ranges.s)) ∙ sym c.is_on.ensures.on ∙ c.if-not-is_on.true));
-    }
+returns-then-not-is_on c = record {
+  clear =
+      stays _ _ (clear_off _ _ _ _
+      (sym (side_on _ _ _) ∙ ap is_on (sym c.requires.s_value ∙ sym (back c.ranges.s)) ∙ sym c.is_on.ensures.on ∙ c.if-not-is_on.true));
+}
 
-pub is_between-requires-clause-in_range : goal.is_between-requires-clause-in_range
-is_between-requires-clause-in_range c =
-    let h = c.requires.plate in
-    subst InRange (sym c.mark.ensures.placed) (mark_in_range h _)
+pub is_between-requires-clause-a_in_range : goal.is_between-requires-clause-a_in_range
+is_between-requires-clause-a_in_range c = subst InRange (sym c.mark.ensures.placed) (mark_in_range c.requires.plate _)
 
-pub is_between-requires-clause-in_range_2 : goal.is_between-requires-clause-in_range_2
-is_between-requires-clause-in_range_2 c =
-    let h = c.requires.plate in
-    subst InRange (sym c.mark-2.ensures.placed) (mark_in_range h _)
+pub is_between-requires-clause-b_in_range : goal.is_between-requires-clause-b_in_range
+is_between-requires-clause-b_in_range c =
+    subst InRange (sym c.mark-2.ensures.placed) (mark_in_range c.requires.plate _)
 
-pub is_between-requires-clause-in_range_3 : goal.is_between-requires-clause-in_range_3
-is_between-requires-clause-in_range_3 c =
-    let h = c.requires.plate in
-    subst InRange (sym c.mark-3.ensures.placed) (mark_in_range h _)
+pub is_between-requires-clause-k_in_range : goal.is_between-requires-clause-k_in_range
+is_between-requires-clause-k_in_range c =
+    subst InRange (sym c.mark-3.ensures.placed) (mark_in_range c.requires.plate _)
 
 pub returns-then-not-is_between : goal.returns-then-not-is_between
 returns-then-not-is_between c = record {
@@ -59,13 +52,10 @@ pub returns-then-k-b : goal.returns-then-k-b
 returns-then-k-b c = record { clear = stays _ _ (clear_at_b _ _ _ _ c.if-k-b.true) }
 
 pub returns : goal.returns
-returns c =
-    let s = c in
-    record {
-      clear =
-          stops s.args.sofar _ (clear_third _ _ _ _ c.if-k-a.false c.if-k-b.false (sym (side_on _ _ _) ∙ ap is_on
-          (sym s.requires.s_value ∙ sym (back s.ranges.s)) ∙ sym c.is_on.ensures.on ∙ c.if-not-is_on.false) ∙ ap
-          not (sym
-          (λ i. between (c.mark.ensures.placed i) (c.mark-2.ensures.placed i) (c.mark-3.ensures.placed i)) ∙ sym
-          c.is_between.ensures.between ∙ c.if-not-is_between.false));
-    }
+returns c = record {
+  clear =
+      stops c.args.sofar _ (clear_third _ _ _ _ c.if-k-a.false c.if-k-b.false (sym (side_on _ _ _) ∙ ap is_on
+      (sym c.requires.s_value ∙ sym (back c.ranges.s)) ∙ sym c.is_on.ensures.on ∙ c.if-not-is_on.false) ∙ ap not
+      (sym (λ i. between (c.mark.ensures.placed i) (c.mark-2.ensures.placed i) (c.mark-3.ensures.placed i)) ∙ sym
+      c.is_between.ensures.between ∙ c.if-not-is_between.false));
+}

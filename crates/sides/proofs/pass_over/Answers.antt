@@ -12,20 +12,14 @@ use Rattle.sides.proofs.pass_over.Goals as goal
 pub loop-k-init : goal.loop-k-init
 loop-k-init c = (search rules, search rules, pass_none _ _ _ _)
 
-pub side-s-requires-clause-in_range : goal.side-s-requires-clause-in_range
-side-s-requires-clause-in_range c =
-    let h = c.requires.plate in
-    subst InRange (sym c.mark-p.ensures.placed) (mark_in_range h _)
+pub side-s-requires-clause-p_in_range : goal.side-s-requires-clause-p_in_range
+side-s-requires-clause-p_in_range c = subst InRange (sym c.mark-p.ensures.placed) (mark_in_range c.requires.plate _)
 
-pub side-s-requires-clause-in_range_2 : goal.side-s-requires-clause-in_range_2
-side-s-requires-clause-in_range_2 c =
-    let h = c.requires.plate in
-    subst InRange (sym c.mark-q.ensures.placed) (mark_in_range h _)
+pub side-s-requires-clause-q_in_range : goal.side-s-requires-clause-q_in_range
+side-s-requires-clause-q_in_range c = subst InRange (sym c.mark-q.ensures.placed) (mark_in_range c.requires.plate _)
 
-pub side-s-requires-clause-in_range_3 : goal.side-s-requires-clause-in_range_3
-side-s-requires-clause-in_range_3 c =
-    let h = c.requires.plate in
-    subst InRange (sym c.mark.ensures.placed) (mark_in_range h _)
+pub side-s-requires-clause-r_in_range : goal.side-s-requires-clause-r_in_range
+side-s-requires-clause-r_in_range c = subst InRange (sym c.mark.ensures.placed) (mark_in_range c.requires.plate _)
 
 pub push-left-requires : goal.push-left-requires
 push-left-requires c = room _ _ _ c.loop-k.invariant.2.lefts (omega arith)
@@ -34,19 +28,13 @@ pub push-right-requires : goal.push-right-requires
 push-right-requires c = room _ _ _ c.loop-k.invariant.2.rights (omega arith)
 
 pub is_still_clear-clear-requires-clause-plate : goal.is_still_clear-clear-requires-clause-plate
-is_still_clear-clear-requires-clause-plate c =
-    let h = c.requires in
-    h.plate
+is_still_clear-clear-requires-clause-plate c = c.requires.plate
 
-pub is_still_clear-clear-requires-clause-mark : goal.is_still_clear-clear-requires-clause-mark
-is_still_clear-clear-requires-clause-mark c =
-    let h = c.requires in
-    h.mark
+pub is_still_clear-clear-requires-clause-a_is_mark : goal.is_still_clear-clear-requires-clause-a_is_mark
+is_still_clear-clear-requires-clause-a_is_mark c = c.requires.a_is_mark
 
-pub is_still_clear-clear-requires-clause-mark_2 : goal.is_still_clear-clear-requires-clause-mark_2
-is_still_clear-clear-requires-clause-mark_2 c =
-    let h = c.requires in
-    h.mark_2
+pub is_still_clear-clear-requires-clause-b_is_mark : goal.is_still_clear-clear-requires-clause-b_is_mark
+is_still_clear-clear-requires-clause-b_is_mark c = c.requires.b_is_mark
 
 pub is_still_clear-clear-requires-clause-s_value : goal.is_still_clear-clear-requires-clause-s_value
 is_still_clear-clear-requires-clause-s_value c =
@@ -61,7 +49,7 @@ loop-k-preserved c =
     (λ i. side (c.mark-p.ensures.placed i) (c.mark-q.ensures.placed i) (c.mark.ensures.placed i))) in (
       omega arith,
       omega arith,
-      pass_down l.k c.args.hi (omega arith) (omega arith) (omega arith) c.requires.mark c.requires.mark_2
+      pass_down l.k c.args.hi (omega arith) (omega arith) (omega arith) c.requires.a_is_mark c.requires.b_is_mark
           l.invariant.2 (c.is_left.ensures.left ∙ ap is_left e ∙ side_left _ _ _)
           (c.is_right.ensures.right ∙ ap is_right e ∙ side_right _ _ _) c.push-left.ensures.pushed
           c.push-right.ensures.pushed c.is_still_clear-clear.ensures.clear,
@@ -69,6 +57,5 @@ loop-k-preserved c =
 
 pub returns : goal.returns
 returns c =
-    let a = c in
-    let e : a.loop-k.k ≡ c.args.lo = omega arith in
-    record { passed = rw e at a.loop-k.invariant.2 }
+    let e : c.loop-k.k ≡ c.args.lo = omega arith in
+    record { passed = rw e at c.loop-k.invariant.2 }

@@ -1,4 +1,4 @@
--- `sides::pass_over` meets its contract. The invariant: the marks from k on are passed. A mark more is a digit below the others. Assumes nothing.
+-- The invariant of the loop of `sides::pass_over`: the marks from k on are passed. A mark more is a digit below the others.
 use Prim.Native.Nat.{◌-◌, ◌≤◌}
 use Rattle.sides.specs.Sides.{Passed}
 use Rattle.sides.proofs.Laws.{found}

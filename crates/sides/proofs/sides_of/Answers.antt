@@ -4,94 +4,40 @@ use Rattle.sides.proofs.Laws.{two_halves}
 use Rattle.sides.proofs.sides_of.Goals as goal
 
 pub pass_over-x-requires-clause-plate : goal.pass_over-x-requires-clause-plate
-pass_over-x-requires-clause-plate c =
-    let h = c.requires in
-    let e = c.low_end-h.ensures.end in
-    let d = c.count-n.ensures.counted in
-    h.plate
+pass_over-x-requires-clause-plate c = c.requires.plate
 
-pub pass_over-x-requires-clause-mark : goal.pass_over-x-requires-clause-mark
-pass_over-x-requires-clause-mark c =
-    let h = c.requires in
-    let e = c.low_end-h.ensures.end in
-    let d = c.count-n.ensures.counted in
-    h.mark
+pub pass_over-x-requires-clause-a_is_mark : goal.pass_over-x-requires-clause-a_is_mark
+pass_over-x-requires-clause-a_is_mark c = c.requires.a_is_mark
 
-pub pass_over-x-requires-clause-mark_2 : goal.pass_over-x-requires-clause-mark_2
-pass_over-x-requires-clause-mark_2 c =
-    let h = c.requires in
-    let e = c.low_end-h.ensures.end in
-    let d = c.count-n.ensures.counted in
-    h.mark_2
+pub pass_over-x-requires-clause-b_is_mark : goal.pass_over-x-requires-clause-b_is_mark
+pass_over-x-requires-clause-b_is_mark c = c.requires.b_is_mark
 
 pub pass_over-x-requires-clause-lo_le_hi : goal.pass_over-x-requires-clause-lo_le_hi
-pass_over-x-requires-clause-lo_le_hi c =
-    let h = c.requires in
-    let e = c.low_end-h.ensures.end in
-    let d = c.count-n.ensures.counted in
-    omega arith
+pass_over-x-requires-clause-lo_le_hi c = omega arith
 
 pub pass_over-x-requires-clause-hi_bound : goal.pass_over-x-requires-clause-hi_bound
-pass_over-x-requires-clause-hi_bound c =
-    let h = c.requires in
-    let e = c.low_end-h.ensures.end in
-    let d = c.count-n.ensures.counted in
-    omega arith
+pass_over-x-requires-clause-hi_bound c = omega arith
 
-pub pass_over-x-requires-clause-hi_bound_2 : goal.pass_over-x-requires-clause-hi_bound_2
-pass_over-x-requires-clause-hi_bound_2 c =
-    let h = c.requires in
-    let e = c.low_end-h.ensures.end in
-    let d = c.count-n.ensures.counted in
-    omega arith
+pub pass_over-x-requires-clause-hi_near : goal.pass_over-x-requires-clause-hi_near
+pass_over-x-requires-clause-hi_near c = omega arith
 
 pub pass_over-y-requires-clause-plate : goal.pass_over-y-requires-clause-plate
-pass_over-y-requires-clause-plate c =
-    let h = c.requires in
-    let few = h.plate.few in
-    let e = c.low_end-h.ensures.end in
-    let d = c.count-n.ensures.counted in
-    h.plate
+pass_over-y-requires-clause-plate c = c.requires.plate
 
-pub pass_over-y-requires-clause-mark : goal.pass_over-y-requires-clause-mark
-pass_over-y-requires-clause-mark c =
-    let h = c.requires in
-    let few = h.plate.few in
-    let e = c.low_end-h.ensures.end in
-    let d = c.count-n.ensures.counted in
-    h.mark
+pub pass_over-y-requires-clause-a_is_mark : goal.pass_over-y-requires-clause-a_is_mark
+pass_over-y-requires-clause-a_is_mark c = c.requires.a_is_mark
 
-pub pass_over-y-requires-clause-mark_2 : goal.pass_over-y-requires-clause-mark_2
-pass_over-y-requires-clause-mark_2 c =
-    let h = c.requires in
-    let few = h.plate.few in
-    let e = c.low_end-h.ensures.end in
-    let d = c.count-n.ensures.counted in
-    h.mark_2
+pub pass_over-y-requires-clause-b_is_mark : goal.pass_over-y-requires-clause-b_is_mark
+pass_over-y-requires-clause-b_is_mark c = c.requires.b_is_mark
 
 pub pass_over-y-requires-clause-lo_le_hi : goal.pass_over-y-requires-clause-lo_le_hi
-pass_over-y-requires-clause-lo_le_hi c =
-    let h = c.requires in
-    let few = h.plate.few in
-    let e = c.low_end-h.ensures.end in
-    let d = c.count-n.ensures.counted in
-    omega arith
+pass_over-y-requires-clause-lo_le_hi c = omega arith
 
 pub pass_over-y-requires-clause-hi_bound : goal.pass_over-y-requires-clause-hi_bound
-pass_over-y-requires-clause-hi_bound c =
-    let h = c.requires in
-    let few = h.plate.few in
-    let e = c.low_end-h.ensures.end in
-    let d = c.count-n.ensures.counted in
-    omega arith
+pass_over-y-requires-clause-hi_bound c = omega arith
 
-pub pass_over-y-requires-clause-hi_bound_2 : goal.pass_over-y-requires-clause-hi_bound_2
-pass_over-y-requires-clause-hi_bound_2 c =
-    let h = c.requires in
-    let few = h.plate.few in
-    let e = c.low_end-h.ensures.end in
-    let d = c.count-n.ensures.counted in
-    omega arith
+pub pass_over-y-requires-clause-hi_near : goal.pass_over-y-requires-clause-hi_near
+pass_over-y-requires-clause-hi_near c = omega arith
 
 pub returns : goal.returns
 returns c = record {

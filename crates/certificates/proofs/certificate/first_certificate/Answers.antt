@@ -19,8 +19,8 @@ use Rattle.certificates.proofs.certificate.first_certificate.Goals.{else-search-
 given : (a : Start) → Given a.args.m.now a.args.p a.args.q
 given a =
     let up = a.requires.p_lt_q in
-    let q_mark = a.requires.mark in
-    record { plate = a.requires.plate; p_mark = omega arith; q_mark = q_mark; empty = a.requires.q_value }
+    let q_mark = a.requires.q_is_mark in
+    record { plate = a.requires.plate; p_mark = omega arith; q_mark = q_mark; empty = a.requires.empty }
 
 -- the left apex that is tried, and the right one
 left_here :
@@ -29,12 +29,12 @@ left_here :
     candidate a.m.now (edges_of a.m.now (remaining a.st.now)) a.p a.q a.p a.q d.search.r ≡ true
 left_here d = open_at d.search.invariant.2 d.search.invariant.1 d.search-test.true
 
-right-here :
+right_here :
     (c : In-loop-s) →
     let a = c.args in
     right_candidate a.m.now (edges_of a.m.now (remaining a.st.now)) a.p a.q c.search.r c.loop-s.s ≡
     true
-right-here c = open_at c.loop-s.invariant.2 c.loop-s.invariant.1 c.loop-s-test.true
+right_here c = open_at c.loop-s.invariant.2 c.loop-s.invariant.1 c.loop-s-test.true
 
 -- where the ways out of the loops meet
 stopped :
@@ -65,23 +65,19 @@ candidates-rights-requires-clause-rows c = c.requires.rows
 
 pub candidates-rights-requires-clause-p_bound : goal.candidates-rights-requires-clause-p_bound
 candidates-rights-requires-clause-p_bound c =
-    let g = given (goal.at.candidates-rights-requires-clause-p_bound c).Start in
-    p_small g
+    p_small (given (goal.at.candidates-rights-requires-clause-p_bound c).Start)
 
 pub candidates-rights-requires-clause-q_bound : goal.candidates-rights-requires-clause-q_bound
 candidates-rights-requires-clause-q_bound c =
-    let g = given (goal.at.candidates-rights-requires-clause-q_bound c).Start in
-    q_small g
+    q_small (given (goal.at.candidates-rights-requires-clause-q_bound c).Start)
 
 pub candidates-rights-requires-clause-a_bound : goal.candidates-rights-requires-clause-a_bound
 candidates-rights-requires-clause-a_bound c =
-    let g = given (goal.at.candidates-rights-requires-clause-a_bound c).Start in
-    q_small g
+    q_small (given (goal.at.candidates-rights-requires-clause-a_bound c).Start)
 
 pub candidates-rights-requires-clause-b_bound : goal.candidates-rights-requires-clause-b_bound
 candidates-rights-requires-clause-b_bound c =
-    let g = given (goal.at.candidates-rights-requires-clause-b_bound c).Start in
-    p_small g
+    p_small (given (goal.at.candidates-rights-requires-clause-b_bound c).Start)
 
 pub candidates-lefts-requires-clause-table : goal.candidates-lefts-requires-clause-table
 candidates-lefts-requires-clause-table c = c.requires.table
@@ -91,23 +87,19 @@ candidates-lefts-requires-clause-rows c = c.requires.rows
 
 pub candidates-lefts-requires-clause-p_bound : goal.candidates-lefts-requires-clause-p_bound
 candidates-lefts-requires-clause-p_bound c =
-    let g = given (goal.at.candidates-lefts-requires-clause-p_bound c).Start in
-    p_small g
+    p_small (given (goal.at.candidates-lefts-requires-clause-p_bound c).Start)
 
 pub candidates-lefts-requires-clause-q_bound : goal.candidates-lefts-requires-clause-q_bound
 candidates-lefts-requires-clause-q_bound c =
-    let g = given (goal.at.candidates-lefts-requires-clause-q_bound c).Start in
-    q_small g
+    q_small (given (goal.at.candidates-lefts-requires-clause-q_bound c).Start)
 
 pub candidates-lefts-requires-clause-a_bound : goal.candidates-lefts-requires-clause-a_bound
 candidates-lefts-requires-clause-a_bound c =
-    let g = given (goal.at.candidates-lefts-requires-clause-a_bound c).Start in
-    p_small g
+    p_small (given (goal.at.candidates-lefts-requires-clause-a_bound c).Start)
 
 pub candidates-lefts-requires-clause-b_bound : goal.candidates-lefts-requires-clause-b_bound
 candidates-lefts-requires-clause-b_bound c =
-    let g = given (goal.at.candidates-lefts-requires-clause-b_bound c).Start in
-    q_small g
+    q_small (given (goal.at.candidates-lefts-requires-clause-b_bound c).Start)
 
 pub search-init : goal.search-init
 search-init c =
@@ -121,37 +113,27 @@ pub splits-across-requires-clause-table : goal.splits-across-requires-clause-tab
 splits-across-requires-clause-table c = c.requires.table
 
 pub splits-across-requires-clause-p_bound : goal.splits-across-requires-clause-p_bound
-splits-across-requires-clause-p_bound c =
-    let g = given (goal.at.splits-across-requires-clause-p_bound c).Start in
-    p_small g
+splits-across-requires-clause-p_bound c = p_small (given (goal.at.splits-across-requires-clause-p_bound c).Start)
 
 pub splits-across-requires-clause-q_bound : goal.splits-across-requires-clause-q_bound
-splits-across-requires-clause-q_bound c =
-    let g = given (goal.at.splits-across-requires-clause-q_bound c).Start in
-    q_small g
+splits-across-requires-clause-q_bound c = q_small (given (goal.at.splits-across-requires-clause-q_bound c).Start)
 
 pub splits-across-requires-clause-r_bound : goal.splits-across-requires-clause-r_bound
-splits-across-requires-clause-r_bound c =
-    let g = given (goal.at.splits-across-requires-clause-r_bound c).Start in
-    c.search-test.true
+splits-across-requires-clause-r_bound c = c.search-test.true
 
 pub right_candidates-ss-requires-clause-table : goal.right_candidates-ss-requires-clause-table
 right_candidates-ss-requires-clause-table c = c.requires.table
 
 pub right_candidates-ss-requires-clause-p_bound : goal.right_candidates-ss-requires-clause-p_bound
 right_candidates-ss-requires-clause-p_bound c =
-    let g = given (goal.at.right_candidates-ss-requires-clause-p_bound c).Start in
-    p_small g
+    p_small (given (goal.at.right_candidates-ss-requires-clause-p_bound c).Start)
 
 pub right_candidates-ss-requires-clause-q_bound : goal.right_candidates-ss-requires-clause-q_bound
 right_candidates-ss-requires-clause-q_bound c =
-    let g = given (goal.at.right_candidates-ss-requires-clause-q_bound c).Start in
-    q_small g
+    q_small (given (goal.at.right_candidates-ss-requires-clause-q_bound c).Start)
 
 pub right_candidates-ss-requires-clause-r_bound : goal.right_candidates-ss-requires-clause-r_bound
-right_candidates-ss-requires-clause-r_bound c =
-    let g = given (goal.at.right_candidates-ss-requires-clause-r_bound c).Start in
-    c.search-test.true
+right_candidates-ss-requires-clause-r_bound c = c.search-test.true
 
 pub right_candidates-ss-requires-clause-rights_value : goal.right_candidates-ss-requires-clause-rights_value
 right_candidates-ss-requires-clause-rights_value c = c.candidates-rights.ensures.found
@@ -167,53 +149,33 @@ loop-s-init c =
 pub is_match-requires-clause-plate : goal.is_match-requires-clause-plate
 is_match-requires-clause-plate c =
     let g = given (goal.at.is_match-requires-clause-plate c).Start in
-    let r_mark = candidate_mark _ _ _ _ _ _ _ (left_here (goal.at.is_match-requires-clause-plate c).In-search) in
-    let s_mark = right_mark _ _ _ _ _ _ (right-here (goal.at.is_match-requires-clause-plate c).In-loop-s) in
-    let across = c.splits-across.ensures.split in
     g.plate
 
 pub is_match-requires-clause-table : goal.is_match-requires-clause-table
 is_match-requires-clause-table c = c.requires.table
 
-pub is_match-requires-clause-mark : goal.is_match-requires-clause-mark
-is_match-requires-clause-mark c =
-    let g = given (goal.at.is_match-requires-clause-mark c).Start in
-    let r_mark = candidate_mark _ _ _ _ _ _ _ (left_here (goal.at.is_match-requires-clause-mark c).In-search) in
-    let s_mark = right_mark _ _ _ _ _ _ (right-here (goal.at.is_match-requires-clause-mark c).In-loop-s) in
-    let across = c.splits-across.ensures.split in
+pub is_match-requires-clause-p_is_mark : goal.is_match-requires-clause-p_is_mark
+is_match-requires-clause-p_is_mark c =
+    let g = given (goal.at.is_match-requires-clause-p_is_mark c).Start in
     g.p_mark
 
-pub is_match-requires-clause-mark_2 : goal.is_match-requires-clause-mark_2
-is_match-requires-clause-mark_2 c =
-    let g = given (goal.at.is_match-requires-clause-mark_2 c).Start in
-    let r_mark = candidate_mark _ _ _ _ _ _ _ (left_here (goal.at.is_match-requires-clause-mark_2 c).In-search) in
-    let s_mark = right_mark _ _ _ _ _ _ (right-here (goal.at.is_match-requires-clause-mark_2 c).In-loop-s) in
-    let across = c.splits-across.ensures.split in
+pub is_match-requires-clause-q_is_mark : goal.is_match-requires-clause-q_is_mark
+is_match-requires-clause-q_is_mark c =
+    let g = given (goal.at.is_match-requires-clause-q_is_mark c).Start in
     g.q_mark
 
-pub is_match-requires-clause-mark_3 : goal.is_match-requires-clause-mark_3
-is_match-requires-clause-mark_3 c =
-    let g = given (goal.at.is_match-requires-clause-mark_3 c).Start in
-    let r_mark = candidate_mark _ _ _ _ _ _ _ (left_here (goal.at.is_match-requires-clause-mark_3 c).In-search) in
-    let s_mark = right_mark _ _ _ _ _ _ (right-here (goal.at.is_match-requires-clause-mark_3 c).In-loop-s) in
-    let across = c.splits-across.ensures.split in
+pub is_match-requires-clause-r_is_mark : goal.is_match-requires-clause-r_is_mark
+is_match-requires-clause-r_is_mark c =
+    let r_mark = candidate_mark _ _ _ _ _ _ _ (left_here (goal.at.is_match-requires-clause-r_is_mark c).In-search) in
     r_mark
 
-pub is_match-requires-clause-mark_4 : goal.is_match-requires-clause-mark_4
-is_match-requires-clause-mark_4 c =
-    let g = given (goal.at.is_match-requires-clause-mark_4 c).Start in
-    let r_mark = candidate_mark _ _ _ _ _ _ _ (left_here (goal.at.is_match-requires-clause-mark_4 c).In-search) in
-    let s_mark = right_mark _ _ _ _ _ _ (right-here (goal.at.is_match-requires-clause-mark_4 c).In-loop-s) in
-    let across = c.splits-across.ensures.split in
+pub is_match-requires-clause-s_is_mark : goal.is_match-requires-clause-s_is_mark
+is_match-requires-clause-s_is_mark c =
+    let s_mark = right_mark _ _ _ _ _ _ (right_here (goal.at.is_match-requires-clause-s_is_mark c).In-loop-s) in
     s_mark
 
 pub is_match-requires-clause-across_value : goal.is_match-requires-clause-across_value
-is_match-requires-clause-across_value c =
-    let g = given (goal.at.is_match-requires-clause-across_value c).Start in
-    let r_mark = candidate_mark _ _ _ _ _ _ _ (left_here (goal.at.is_match-requires-clause-across_value c).In-search) in
-    let s_mark = right_mark _ _ _ _ _ _ (right-here (goal.at.is_match-requires-clause-across_value c).In-loop-s) in
-    let across = c.splits-across.ensures.split in
-    across
+is_match-requires-clause-across_value c = c.splits-across.ensures.split
 
 pub rest_of-ss-requires-clause-k_value : goal.rest_of-ss-requires-clause-k_value
 rest_of-ss-requires-clause-k_value c = c.loop-s.invariant.1
@@ -233,7 +195,7 @@ loop-s-preserved c =
     let no = sym c.is_match.ensures.fits ∙ c.if-is_match.false in
     let miss =
     match_no _ _ _ _ g _ (left_here (goal.at.loop-s-preserved c).In-search) _
-    (right-here (goal.at.loop-s-preserved c).In-loop-s) no in
+    (right_here (goal.at.loop-s-preserved c).In-loop-s) no in
     (i.0, c.first_of-s-in-loop-s.ensures.first, open_next i.2 i.1 g.plate.few miss c.rest_of-ss.ensures.rest)
 
 pub rest_of-lefts-requires-clause-k_value : goal.rest_of-lefts-requires-clause-k_value

@@ -1,6 +1,6 @@
--- `certificate::first_certificate` meets its contract. The invariant of both loops: nothing is found yet, r or s is the first member
--- of its set, the members are candidates, and every other mark picks nothing. So the first match is the first certificate, and where
--- the left candidates are used up there is none. The measures: the next member comes later. Assumes nothing.
+-- The invariant of the loops of `certificate::first_certificate`: nothing is found yet, r or s is the first member of its set,
+-- the members are candidates, and every other mark picks nothing. So the first match is the first certificate, and where the left
+-- candidates are used up there is none. The measures: the next member comes later.
 use mathlib.Core.Path.{◌≡◌}
 use mathlib.Core.Bool.{false}
 use Prim.Native.Nat.{◌-◌}

@@ -28,20 +28,20 @@ split c =
     let few = c.requires.plate.few in
     across_has _ _ _ _ _ (omega arith) c.requires.across_value c.has_mark.ensures.member
 
-pub weight-requires-clause-in_range : goal.weight-requires-clause-in_range
-weight-requires-clause-in_range c =
+pub weight-requires-clause-a_in_range : goal.weight-requires-clause-a_in_range
+weight-requires-clause-a_in_range c =
     subst InRange (sym c.mark.ensures.placed) (mark_in_range c.requires.plate c.args.p)
 
-pub weight-requires-clause-in_range_2 : goal.weight-requires-clause-in_range_2
-weight-requires-clause-in_range_2 c =
+pub weight-requires-clause-b_in_range : goal.weight-requires-clause-b_in_range
+weight-requires-clause-b_in_range c =
     subst InRange (sym c.mark-2.ensures.placed) (mark_in_range c.requires.plate c.args.q)
 
-pub weight-requires-2-clause-in_range : goal.weight-requires-2-clause-in_range
-weight-requires-2-clause-in_range c =
+pub weight-requires-2-clause-a_in_range : goal.weight-requires-2-clause-a_in_range
+weight-requires-2-clause-a_in_range c =
     subst InRange (sym c.mark-3.ensures.placed) (mark_in_range c.requires.plate c.args.r)
 
-pub weight-requires-2-clause-in_range_2 : goal.weight-requires-2-clause-in_range_2
-weight-requires-2-clause-in_range_2 c =
+pub weight-requires-2-clause-b_in_range : goal.weight-requires-2-clause-b_in_range
+weight-requires-2-clause-b_in_range c =
     subst InRange (sym c.mark-4.ensures.placed) (mark_in_range c.requires.plate c.args.s)
 
 pub returns-then-weight : goal.returns-then-weight

@@ -11,16 +11,10 @@ pub left_set-lefts-requires-clause-table : goal.left_set-lefts-requires-clause-t
 left_set-lefts-requires-clause-table c = c.requires.table
 
 pub left_set-lefts-requires-clause-p_bound : goal.left_set-lefts-requires-clause-p_bound
-left_set-lefts-requires-clause-p_bound c =
-    let h = c.requires in
-    let few = c.requires.plate.few in
-    omega arith
+left_set-lefts-requires-clause-p_bound c = omega arith
 
 pub left_set-lefts-requires-clause-q_bound : goal.left_set-lefts-requires-clause-q_bound
-left_set-lefts-requires-clause-q_bound c =
-    let h = c.requires in
-    let few = c.requires.plate.few in
-    omega arith
+left_set-lefts-requires-clause-q_bound c = omega arith
 
 pub loop-r-init : goal.loop-r-init
 loop-r-init c = (c.first_of-r.ensures.first, pass_start _ _ _ _ c.left_set-lefts.ensures.left)
@@ -32,16 +26,10 @@ pub is_crossed_from-requires-clause-rows : goal.is_crossed_from-requires-clause-
 is_crossed_from-requires-clause-rows c = c.requires.rows
 
 pub is_crossed_from-requires-clause-p_bound : goal.is_crossed_from-requires-clause-p_bound
-is_crossed_from-requires-clause-p_bound c =
-    let h = c.requires in
-    let few = c.requires.plate.few in
-    omega arith
+is_crossed_from-requires-clause-p_bound c = omega arith
 
 pub is_crossed_from-requires-clause-q_bound : goal.is_crossed_from-requires-clause-q_bound
-is_crossed_from-requires-clause-q_bound c =
-    let h = c.requires in
-    let few = c.requires.plate.few in
-    omega arith
+is_crossed_from-requires-clause-q_bound c = omega arith
 
 pub is_crossed_from-requires-clause-r_bound : goal.is_crossed_from-requires-clause-r_bound
 is_crossed_from-requires-clause-r_bound c = c.loop-r-test.true
@@ -53,7 +41,7 @@ returns-then-is_crossed_from c =
     let left = l.invariant.1.lefts _ small (first_member _ _ l.invariant.0 small) in
     let hit = sym c.is_crossed_from.ensures.crossed ∙ c.if-is_crossed_from.true in
     record {
-      crossed = sym (from_crosses _ _ _ _ (record { up = c.requires.p_lt_q; marks = c.requires.mark }) l.r left hit);
+      crossed = sym (from_crosses _ _ _ _ (record { up = c.requires.p_lt_q; marks = c.requires.q_is_mark }) l.r left hit);
     }
 
 pub rest_of-lefts-requires-clause-k_value : goal.rest_of-lefts-requires-clause-k_value
@@ -64,8 +52,9 @@ rest_of-lefts-requires-clause-k_bound c = c.loop-r-test.true
 
 pub loop-r-smaller : goal.loop-r-smaller
 loop-r-smaller c =
-    let first = c.loop-r.invariant.0 in
-    let later = next_later _ _ first _ c.rest_of-lefts.ensures.rest _ c.first_of-r-in-loop-r.ensures.first c.loop-r-test.true in
+    let later =
+    next_later _ _ c.loop-r.invariant.0 _ c.rest_of-lefts.ensures.rest _ c.first_of-r-in-loop-r.ensures.first
+    c.loop-r-test.true in
     omega arith
 
 pub loop-r-preserved : goal.loop-r-preserved
@@ -81,6 +70,6 @@ returns c =
     let l = c.loop-r in
     record {
       crossed =
-          sym (from_none _ _ _ _ (record { up = c.requires.p_lt_q; marks = c.requires.mark }) c.requires.plate.few
+          sym (from_none _ _ _ _ (record { up = c.requires.p_lt_q; marks = c.requires.q_is_mark }) c.requires.plate.few
           c.requires.clean.edges (pass_end _ _ _ _ l.invariant.0 c.loop-r-test.false l.invariant.1));
     }

@@ -1,6 +1,6 @@
--- `cross::is_crossed` meets its contract. The loop's invariant: of the marks left of p to q, those no longer in the set have no
--- edge that crosses (p, q), and r is the first that is still in it. An edge that crosses has one end on the left, so at the end
--- there is none. The measure is what 128 leaves above r. Assumes nothing.
+-- The invariant of the loop of `cross::is_crossed`: of the marks left of p to q, those no longer in the set have no edge that
+-- crosses (p, q), and r is the first that is still in it. An edge that crosses has one end on the left, so at the end there is
+-- none. The measure is what 128 leaves above r.
 use mathlib.Core.Path.{◌≡◌}
 use Prim.Native.Nat.{◌-◌}
 use Rattle.plane.specs.Numbers.{first_to}

@@ -19,10 +19,7 @@ pub join-requires-clause-clean : goal.join-requires-clause-clean
 join-requires-clause-clean c = c.requires.clean
 
 pub join-requires-clause-rows : goal.join-requires-clause-rows
-join-requires-clause-rows c =
-    let l = c.loop-i in
-    let n = place c.args.m.now l.i l.invariant.1 (omega arith) in
-    l.invariant.2
+join-requires-clause-rows c = c.loop-i.invariant.2
 
 pub join-requires-clause-a_lt_b : goal.join-requires-clause-a_lt_b
 join-requires-clause-a_lt_b c =
@@ -30,8 +27,8 @@ join-requires-clause-a_lt_b c =
     let n = place c.args.m.now l.i l.invariant.1 (omega arith) in
     n.up
 
-pub join-requires-clause-mark : goal.join-requires-clause-mark
-join-requires-clause-mark c =
+pub join-requires-clause-b_is_mark : goal.join-requires-clause-b_is_mark
+join-requires-clause-b_is_mark c =
     let l = c.loop-i in
     let n = place c.args.m.now l.i l.invariant.1 (omega arith) in
     n.mark
@@ -46,16 +43,12 @@ pub next_pair-p-requires-clause-a_lt_b : goal.next_pair-p-requires-clause-a_lt_b
 next_pair-p-requires-clause-a_lt_b c =
     let l = c.loop-i in
     let n = place c.args.m.now l.i l.invariant.1 (omega arith) in
-    let few = c.requires.plate.few in
-    let mark = n.mark in
     n.up
 
 pub next_pair-p-requires-clause-b_bound : goal.next_pair-p-requires-clause-b_bound
 next_pair-p-requires-clause-b_bound c =
     let l = c.loop-i in
     let n = place c.args.m.now l.i l.invariant.1 (omega arith) in
-    let few = c.requires.plate.few in
-    let mark = n.mark in
     omega arith
 
 pub loop-i-preserved : goal.loop-i-preserved

@@ -1,5 +1,5 @@
--- `rows::fill_rows` meets its contract. The loop's invariant: p is pair i, and the rows are those of the pairs below i. No pair is
--- below 0, and past the last byte there is none to add. The measure is what is left of the bytes. Assumes nothing.
+-- The invariant of the loop of `rows::fill_rows`: p is pair i, and the rows are those of the pairs below i. No pair is below 0,
+-- and past the last byte there is none to add. The measure is what is left of the bytes.
 use mathlib.Core.Path.{◌≡◌}
 use Prim.Native.Nat.{◌-◌, ◌≤◌}
 use lib.ListN.{length}

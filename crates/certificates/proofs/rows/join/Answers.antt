@@ -5,13 +5,13 @@ use Rattle.certificates.proofs.rows.join.Goals as goal
 
 pub returns-then-st-i-eq0 : goal.returns-then-st-i-eq0
 returns-then-st-i-eq0 c = record {
-  joined = rows_skipped _ _ _ _ c.requires.a_lt_b c.requires.mark c.requires.i_value c.requires.rows c.if-st-i-eq0.true;
+  joined = rows_skipped _ _ _ _ c.requires.a_lt_b c.requires.b_is_mark c.requires.i_value c.requires.rows c.if-st-i-eq0.true;
 }
 
 pub returns : goal.returns
 returns c = record {
   joined =
-      rows_joined _ _ _ _ c.requires.a_lt_b c.requires.mark c.requires.i_value c.requires.rows c.requires.plate
+      rows_joined _ _ _ _ c.requires.a_lt_b c.requires.b_is_mark c.requires.i_value c.requires.rows c.requires.plate
       c.requires.clean c.if-st-i-eq0.false c.row.ensures.row c.add-x.ensures.added c.put_row.ensures.put
       c.row-2.ensures.row c.add-y.ensures.added c.put_row-2.ensures.put;
 }

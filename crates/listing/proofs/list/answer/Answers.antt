@@ -8,9 +8,7 @@ use Rattle.listing.specs.Program.{answer_text}
 use Rattle.listing.proofs.list.answer.Goals as goal
 
 pub write_refusal-requires : goal.write_refusal-requires
-write_refusal-requires c =
-    let p = c.requires.in_bounds in
-    omega arith
+write_refusal-requires c = omega arith
 
 pub slice_bounds-numbers-end : goal.slice_bounds-numbers-end
 slice_bounds-numbers-end c =
@@ -20,7 +18,7 @@ slice_bounds-numbers-end c =
 pub slice_bounds-list_cleared-end : goal.slice_bounds-list_cleared-end
 slice_bounds-list_cleared-end c =
     sym
-        (length-take-le _ _ (let n = count_small _ _ _ (sym (sym c.read-x.ensures.answered ∙ c.in-Read.is)) in omega arith))
+    (length-take-le _ _ (let n = count_small _ _ _ (sym (sym c.read-x.ensures.answered ∙ c.in-Read.is)) in omega arith))
 
 pub list_cleared-requires : goal.list_cleared-requires
 list_cleared-requires c = record { st_value = c.requires.st_value; in_bounds = c.requires.in_bounds }

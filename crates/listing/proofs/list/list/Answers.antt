@@ -8,9 +8,7 @@ use Rattle.listing.proofs.Listed.{done_listable, paused_listable, listed_refused
 use Rattle.listing.proofs.list.list.Goals as goal
 
 pub write_refusal-requires : goal.write_refusal-requires
-write_refusal-requires c =
-    let p = c.requires in
-    omega arith
+write_refusal-requires c = omega arith
 
 pub write_listing-requires : goal.write_listing-requires
 write_listing-requires c =
@@ -47,16 +45,16 @@ pub returns-in-Done : goal.returns-in-Done
 returns-in-Done c =
     let q = c.search-o.ensures in
     let h =
-        stands_as c.args.out.now
-            (listed_done c.args.m.now c.args.st.now c.args.budget (sym q.outcome ∙ c.in-Done.is) q.status c.count.ensures.counted)
-            (c.write_listing.ensures.counted, c.write_listing.ensures.written) in
+    stands_as c.args.out.now
+    (listed_done c.args.m.now c.args.st.now c.args.budget (sym q.outcome ∙ c.in-Done.is) q.status c.count.ensures.counted)
+    (c.write_listing.ensures.counted, c.write_listing.ensures.written) in
     record { counted = h.0; written = h.1; status = q.status }
 
 pub returns-in-Paused : goal.returns-in-Paused
 returns-in-Paused c =
     let q = c.search-o.ensures in
     let h =
-        stands_as c.args.out.now
-            (listed_paused c.args.m.now c.args.st.now c.args.budget (sym q.outcome ∙ c.in-Paused.is) q.status c.count-in-Paused.ensures.counted)
-            (c.write_listing-in-Paused.ensures.counted, c.write_listing-in-Paused.ensures.written) in
+    stands_as c.args.out.now
+    (listed_paused c.args.m.now c.args.st.now c.args.budget (sym q.outcome ∙ c.in-Paused.is) q.status c.count-in-Paused.ensures.counted)
+    (c.write_listing-in-Paused.ensures.counted, c.write_listing-in-Paused.ensures.written) in
     record { counted = h.0; written = h.1; status = q.status }

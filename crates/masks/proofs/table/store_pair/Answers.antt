@@ -11,15 +11,11 @@ use Rattle.masks.proofs.table.store_pair.Goals as goal
 
 pub returns-clause-kind : goal.returns-clause-kind
 returns-clause-kind c =
-    let h = c.requires in
-    let few = c.requires.plate.few in
-    c.kind_by.ensures.kind ∙ kind_found c.requires.plate (omega arith) c.requires.mark c.sides_of-x.ensures.found
+    c.kind_by.ensures.kind ∙ kind_found c.requires.plate (omega arith) c.requires.b_is_mark c.sides_of-x.ensures.found
 
 pub returns-clause-filled : goal.returns-clause-filled
 returns-clause-filled c =
-    let h = c.requires in
-    let few = c.requires.plate.few in
     let x = c.sides_of-x.ensures.found in
     subst (λ (t : List ℕ). Filled c.args.m.now t (pair_number c.args.a c.args.b + 1))
-        (sym (c.put_entry-2.ensures.put ∙ ap (λ (t : List ℕ). put_entry t c.args.b c.args.a c.sides_of-x.result.right) c.put_entry.ensures.put))
-        (fill_next c.args.a c.args.b c.requires.a_lt_b (omega arith) c.requires.filled_2 x.lefts x.rights)
+    (sym (c.put_entry-2.ensures.put ∙ ap (λ (t : List ℕ). put_entry t c.args.b c.args.a c.sides_of-x.result.right) c.put_entry.ensures.put))
+    (fill_next c.args.a c.args.b c.requires.a_lt_b (omega arith) c.requires.filled_before x.lefts x.rights)

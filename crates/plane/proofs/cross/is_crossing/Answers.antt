@@ -1,6 +1,5 @@
 -- `cross::is_crossing` meets its contract: what the side test answers is opposite where the areas are. Assumes nothing.
 use mathlib.Core.Path.{◌∙◌, sym, ap₂}
-use borrow.Author.Tests.{not-true, not-false}
 use Rattle.plane.specs.Side.{opposite}
 use Rattle.plane.specs.Cross.{crosses}
 use Rattle.plane.proofs.Laws.Bounds.{back}

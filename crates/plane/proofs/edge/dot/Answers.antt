@@ -4,41 +4,41 @@ use Rattle.plane.proofs.Laws.Bounds.{gap, gap_fits, mul_reads, mul_fits, add_rea
 use Rattle.plane.proofs.edge.dot.Goals as goal
 
 pub overflow_sub-result : goal.overflow_sub-result
-overflow_sub-result c = gap_fits c.requires.in_range_2.near_x c.requires.in_range.near_x
+overflow_sub-result c = gap_fits c.requires.a_in_range.near_x c.requires.k_in_range.near_x
 
 pub overflow_sub-result-2 : goal.overflow_sub-result-2
-overflow_sub-result-2 c = gap_fits c.requires.in_range_3.near_x c.requires.in_range.near_x
+overflow_sub-result-2 c = gap_fits c.requires.b_in_range.near_x c.requires.k_in_range.near_x
 
 pub overflow_mul-result : goal.overflow_mul-result
 overflow_mul-result c =
-    let k = c.requires.in_range in
-    mul_fits (gap c.requires.in_range_2.near_x k.near_x) (gap c.requires.in_range_3.near_x k.near_x) tt
+    let k = c.requires.k_in_range in
+    mul_fits (gap c.requires.a_in_range.near_x k.near_x) (gap c.requires.b_in_range.near_x k.near_x) tt
 
 pub overflow_sub-result-3 : goal.overflow_sub-result-3
-overflow_sub-result-3 c = gap_fits c.requires.in_range_2.near_y c.requires.in_range.near_y
+overflow_sub-result-3 c = gap_fits c.requires.a_in_range.near_y c.requires.k_in_range.near_y
 
 pub overflow_sub-result-4 : goal.overflow_sub-result-4
-overflow_sub-result-4 c = gap_fits c.requires.in_range_3.near_y c.requires.in_range.near_y
+overflow_sub-result-4 c = gap_fits c.requires.b_in_range.near_y c.requires.k_in_range.near_y
 
 pub overflow_mul-result-2 : goal.overflow_mul-result-2
 overflow_mul-result-2 c =
-    let k = c.requires.in_range in
-    mul_fits (gap c.requires.in_range_2.near_y k.near_y) (gap c.requires.in_range_3.near_y k.near_y) tt
+    let k = c.requires.k_in_range in
+    mul_fits (gap c.requires.a_in_range.near_y k.near_y) (gap c.requires.b_in_range.near_y k.near_y) tt
 
 pub overflow_add-result : goal.overflow_add-result
 overflow_add-result c =
-    let k = c.requires.in_range in
-    let a = c.requires.in_range_2 in
-    let b = c.requires.in_range_3 in
+    let k = c.requires.k_in_range in
+    let a = c.requires.a_in_range in
+    let b = c.requires.b_in_range in
     add_fits (mul_reads (gap a.near_x k.near_x) (gap b.near_x k.near_x) tt)
     (mul_reads (gap a.near_y k.near_y) (gap b.near_y k.near_y) tt) tt
 
 pub returns : goal.returns
 unfolding dot
 returns c =
-    let k = c.requires.in_range in
-    let a = c.requires.in_range_2 in
-    let b = c.requires.in_range_3 in
+    let k = c.requires.k_in_range in
+    let a = c.requires.a_in_range in
+    let b = c.requires.b_in_range in
     record {
       product =
           (add_reads (mul_reads (gap a.near_x k.near_x) (gap b.near_x k.near_x) tt)

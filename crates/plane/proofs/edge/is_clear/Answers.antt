@@ -16,16 +16,16 @@ pub returns-then-k-b : goal.returns-then-k-b
 unfolding clear
 returns-then-k-b c = record { clear = sym (cond_no _ _ (ne_eqb _ _ c.if-k-a.false) ∙ cond_yes _ _ (eq-eqb _ _ c.if-k-b.true)) }
 
-pub is_on_segment-requires-clause-in_range : goal.is_on_segment-requires-clause-in_range
-is_on_segment-requires-clause-in_range c =
+pub is_on_segment-requires-clause-a_in_range : goal.is_on_segment-requires-clause-a_in_range
+is_on_segment-requires-clause-a_in_range c =
     subst InRange (sym c.mark.ensures.placed) (mark_in_range c.requires.plate _)
 
-pub is_on_segment-requires-clause-in_range_2 : goal.is_on_segment-requires-clause-in_range_2
-is_on_segment-requires-clause-in_range_2 c =
+pub is_on_segment-requires-clause-b_in_range : goal.is_on_segment-requires-clause-b_in_range
+is_on_segment-requires-clause-b_in_range c =
     subst InRange (sym c.mark-2.ensures.placed) (mark_in_range c.requires.plate _)
 
-pub is_on_segment-requires-clause-in_range_3 : goal.is_on_segment-requires-clause-in_range_3
-is_on_segment-requires-clause-in_range_3 c =
+pub is_on_segment-requires-clause-k_in_range : goal.is_on_segment-requires-clause-k_in_range
+is_on_segment-requires-clause-k_in_range c =
     subst InRange (sym c.mark-3.ensures.placed) (mark_in_range c.requires.plate _)
 
 pub returns : goal.returns

@@ -1,7 +1,6 @@
 -- `edge::is_empty_edge` meets its contract. The invariant: the marks passed leave the edge clear. Assumes nothing.
 use mathlib.Core.Path.{sym, ◌∙◌}
 use native.Mathlib.Omega.{arith}
-use borrow.Author.Tests.{not-true, not-false}
 use Rattle.plane.specs.Edge.{empty_edge}
 use Rattle.plane.proofs.Laws.Numbers.{all_none, all_more, all_no, all_end}
 use Rattle.std.proofs.Common.{rules}

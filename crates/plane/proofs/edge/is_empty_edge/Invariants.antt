@@ -1,4 +1,4 @@
--- `edge::is_empty_edge` meets its contract. The invariant: the marks passed leave the edge clear. Assumes nothing.
+-- The invariant of the loop of `edge::is_empty_edge`: the marks passed leave the edge clear.
 use mathlib.Core.Path.{◌≡◌}
 use mathlib.Core.Bool.{true}
 use Prim.Native.Nat.{◌-◌, ◌≤◌}

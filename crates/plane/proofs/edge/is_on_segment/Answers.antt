@@ -1,6 +1,5 @@
 -- `edge::is_on_segment` meets its contract. Assumes nothing.
 use mathlib.Core.Path.{◌∙◌, sym, ap}
-use borrow.Author.Tests.{not-true, not-false}
 use Rattle.plane.specs.Side.{is_on}
 use Rattle.plane.specs.Edge.{on_segment}
 use Rattle.plane.proofs.Laws.Bounds.{back}

@@ -1,7 +1,6 @@
 -- `hull::is_blocking` meets its contract. Assumes nothing.
 use mathlib.Core.Path.{◌∙◌, sym, ap, subst}
 use mathlib.Core.Bool.{not}
-use borrow.Author.Tests.{not-true, not-false}
 use Rattle.plane.specs.Marks.{InRange}
 use Rattle.plane.specs.Side.{is_on}
 use Rattle.plane.specs.Edge.{between}
@@ -24,15 +23,15 @@ returns-then-k-a c = record { blocking = sym (ap not (clear_at_a _ _ _ _ c.if-k-
 pub returns-then-k-b : goal.returns-then-k-b
 returns-then-k-b c = record { blocking = sym (ap not (clear_at_b _ _ _ _ c.if-k-b.true)) }
 
-pub is_between-requires-clause-in_range : goal.is_between-requires-clause-in_range
-is_between-requires-clause-in_range c = subst InRange (sym c.mark.ensures.placed) (mark_in_range c.requires.plate _)
+pub is_between-requires-clause-a_in_range : goal.is_between-requires-clause-a_in_range
+is_between-requires-clause-a_in_range c = subst InRange (sym c.mark.ensures.placed) (mark_in_range c.requires.plate _)
 
-pub is_between-requires-clause-in_range_2 : goal.is_between-requires-clause-in_range_2
-is_between-requires-clause-in_range_2 c =
+pub is_between-requires-clause-b_in_range : goal.is_between-requires-clause-b_in_range
+is_between-requires-clause-b_in_range c =
     subst InRange (sym c.mark-2.ensures.placed) (mark_in_range c.requires.plate _)
 
-pub is_between-requires-clause-in_range_3 : goal.is_between-requires-clause-in_range_3
-is_between-requires-clause-in_range_3 c =
+pub is_between-requires-clause-k_in_range : goal.is_between-requires-clause-k_in_range
+is_between-requires-clause-k_in_range c =
     subst InRange (sym c.mark-3.ensures.placed) (mark_in_range c.requires.plate _)
 
 pub returns : goal.returns

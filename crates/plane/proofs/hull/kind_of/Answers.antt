@@ -20,25 +20,25 @@ pub loop-k-init : goal.loop-k-init
 loop-k-init c =
     (search rules, c.count-n.ensures.counted, all_none _, sym (ap not (all_none _)), sym (ap not (all_none _)))
 
-pub side-s-requires-clause-in_range : goal.side-s-requires-clause-in_range
-side-s-requires-clause-in_range c = subst InRange (sym c.mark.ensures.placed) (mark_in_range c.requires.plate _)
+pub side-s-requires-clause-p_in_range : goal.side-s-requires-clause-p_in_range
+side-s-requires-clause-p_in_range c = subst InRange (sym c.mark.ensures.placed) (mark_in_range c.requires.plate _)
 
-pub side-s-requires-clause-in_range_2 : goal.side-s-requires-clause-in_range_2
-side-s-requires-clause-in_range_2 c =
+pub side-s-requires-clause-q_in_range : goal.side-s-requires-clause-q_in_range
+side-s-requires-clause-q_in_range c =
     subst InRange (sym c.mark-in-loop-k.ensures.placed) (mark_in_range c.requires.plate _)
 
-pub side-s-requires-clause-in_range_3 : goal.side-s-requires-clause-in_range_3
-side-s-requires-clause-in_range_3 c =
+pub side-s-requires-clause-r_in_range : goal.side-s-requires-clause-r_in_range
+side-s-requires-clause-r_in_range c =
     subst InRange (sym c.mark-in-loop-k-2.ensures.placed) (mark_in_range c.requires.plate _)
 
 pub is_blocking-requires-clause-plate : goal.is_blocking-requires-clause-plate
 is_blocking-requires-clause-plate c = c.requires.plate
 
-pub is_blocking-requires-clause-mark : goal.is_blocking-requires-clause-mark
-is_blocking-requires-clause-mark c = c.requires.mark
+pub is_blocking-requires-clause-a_is_mark : goal.is_blocking-requires-clause-a_is_mark
+is_blocking-requires-clause-a_is_mark c = c.requires.a_is_mark
 
-pub is_blocking-requires-clause-mark_2 : goal.is_blocking-requires-clause-mark_2
-is_blocking-requires-clause-mark_2 c = c.requires.mark_2
+pub is_blocking-requires-clause-b_is_mark : goal.is_blocking-requires-clause-b_is_mark
+is_blocking-requires-clause-b_is_mark c = c.requires.b_is_mark
 
 pub is_blocking-requires-clause-s_value : goal.is_blocking-requires-clause-s_value
 is_blocking-requires-clause-s_value c =

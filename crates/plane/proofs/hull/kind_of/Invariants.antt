@@ -1,5 +1,5 @@
--- `hull::kind_of` meets its contract. The invariant: the marks passed leave the edge clear, and `left` and `right` say whether one of
--- them lies strictly left, strictly right. Assumes nothing.
+-- The invariant of the loop of `hull::kind_of`: the marks passed leave the edge clear, and `left` and `right` say whether one of
+-- them lies strictly left, strictly right.
 use mathlib.Core.Path.{◌≡◌}
 use mathlib.Core.Bool.{true, not}
 use Prim.Native.Nat.{◌-◌, ◌≤◌}

@@ -1,6 +1,5 @@
 -- `triangle::is_empty_triangle` meets its contract: it asks in the order of the definition. Assumes nothing.
 use mathlib.Core.Path.{sym, ◌∙◌, ap, subst}
-use borrow.Author.Tests.{not-true, not-false}
 use Rattle.plane.specs.Marks.{InRange}
 use Rattle.plane.specs.Side.{side, is_on}
 use Rattle.plane.specs.Triangle.{empty_triangle}
@@ -9,14 +8,14 @@ use Rattle.plane.proofs.Laws.Side.{side_on}
 use Rattle.plane.proofs.Laws.Tells.{cond_yes, cond_no}
 use Rattle.plane.proofs.triangle.is_empty_triangle.Goals as goal
 
-pub side-requires-clause-in_range : goal.side-requires-clause-in_range
-side-requires-clause-in_range c = subst InRange (sym c.mark.ensures.placed) (mark_in_range c.requires.plate _)
+pub side-requires-clause-p_in_range : goal.side-requires-clause-p_in_range
+side-requires-clause-p_in_range c = subst InRange (sym c.mark.ensures.placed) (mark_in_range c.requires.plate _)
 
-pub side-requires-clause-in_range_2 : goal.side-requires-clause-in_range_2
-side-requires-clause-in_range_2 c = subst InRange (sym c.mark-2.ensures.placed) (mark_in_range c.requires.plate _)
+pub side-requires-clause-q_in_range : goal.side-requires-clause-q_in_range
+side-requires-clause-q_in_range c = subst InRange (sym c.mark-2.ensures.placed) (mark_in_range c.requires.plate _)
 
-pub side-requires-clause-in_range_3 : goal.side-requires-clause-in_range_3
-side-requires-clause-in_range_3 c = subst InRange (sym c.mark-3.ensures.placed) (mark_in_range c.requires.plate _)
+pub side-requires-clause-r_in_range : goal.side-requires-clause-r_in_range
+side-requires-clause-r_in_range c = subst InRange (sym c.mark-3.ensures.placed) (mark_in_range c.requires.plate _)
 
 pub returns-then-is_on : goal.returns-then-is_on
 unfolding empty_triangle

@@ -12,19 +12,19 @@ use Rattle.plane.proofs.triangle.is_hollow.Goals as goal
 pub loop-k-init : goal.loop-k-init
 loop-k-init c = (search rules, c.count-n.ensures.counted, all_none _)
 
-pub is_inside-requires-clause-in_range : goal.is_inside-requires-clause-in_range
-is_inside-requires-clause-in_range c = subst InRange (sym c.mark.ensures.placed) (mark_in_range c.requires.plate _)
+pub is_inside-requires-clause-p_in_range : goal.is_inside-requires-clause-p_in_range
+is_inside-requires-clause-p_in_range c = subst InRange (sym c.mark.ensures.placed) (mark_in_range c.requires.plate _)
 
-pub is_inside-requires-clause-in_range_2 : goal.is_inside-requires-clause-in_range_2
-is_inside-requires-clause-in_range_2 c =
+pub is_inside-requires-clause-q_in_range : goal.is_inside-requires-clause-q_in_range
+is_inside-requires-clause-q_in_range c =
     subst InRange (sym c.mark-in-loop-k.ensures.placed) (mark_in_range c.requires.plate _)
 
-pub is_inside-requires-clause-in_range_3 : goal.is_inside-requires-clause-in_range_3
-is_inside-requires-clause-in_range_3 c =
+pub is_inside-requires-clause-r_in_range : goal.is_inside-requires-clause-r_in_range
+is_inside-requires-clause-r_in_range c =
     subst InRange (sym c.mark-in-loop-k-2.ensures.placed) (mark_in_range c.requires.plate _)
 
-pub is_inside-requires-clause-in_range_4 : goal.is_inside-requires-clause-in_range_4
-is_inside-requires-clause-in_range_4 c =
+pub is_inside-requires-clause-k_in_range : goal.is_inside-requires-clause-k_in_range
+is_inside-requires-clause-k_in_range c =
     subst InRange (sym c.mark-in-loop-k-3.ensures.placed) (mark_in_range c.requires.plate _)
 
 pub returns-then-is_inside : goal.returns-then-is_inside

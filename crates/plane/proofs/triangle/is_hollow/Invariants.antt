@@ -1,4 +1,4 @@
--- `triangle::is_hollow` meets its contract. The invariant: none of the marks passed lies inside. Assumes nothing.
+-- The invariant of the loop of `triangle::is_hollow`: none of the marks passed lies inside.
 use mathlib.Core.Path.{◌≡◌}
 use mathlib.Core.Bool.{true}
 use Prim.Native.Nat.{◌-◌, ◌≤◌}

@@ -1,6 +1,5 @@
 -- `triangle::is_inside` meets its contract: strictly inside is on one side of all three. Assumes nothing.
 use mathlib.Core.Path.{◌∙◌, sym, ap₂}
-use borrow.Author.Tests.{not-true, not-false}
 use Rattle.plane.specs.Side.{same_side}
 use Rattle.plane.proofs.Laws.Bounds.{back}
 use Rattle.plane.proofs.Laws.Side.{side_same}

@@ -4,35 +4,35 @@ use Rattle.plane.proofs.Laws.Bounds.{gap, gap_fits, mul_reads, mul_fits, add_rea
 use Rattle.plane.proofs.weight.weight.Goals as goal
 
 pub overflow_sub-dx : goal.overflow_sub-dx
-overflow_sub-dx c = gap_fits c.requires.in_range_2.near_x c.requires.in_range.near_x
+overflow_sub-dx c = gap_fits c.requires.b_in_range.near_x c.requires.a_in_range.near_x
 
 pub overflow_sub-dy : goal.overflow_sub-dy
-overflow_sub-dy c = gap_fits c.requires.in_range_2.near_y c.requires.in_range.near_y
+overflow_sub-dy c = gap_fits c.requires.b_in_range.near_y c.requires.a_in_range.near_y
 
 pub overflow_mul-result : goal.overflow_mul-result
 overflow_mul-result c =
-    let a = c.requires.in_range in
-    let b = c.requires.in_range_2 in
+    let a = c.requires.a_in_range in
+    let b = c.requires.b_in_range in
     mul_fits (gap b.near_x a.near_x) (gap b.near_x a.near_x) tt
 
 pub overflow_mul-result-2 : goal.overflow_mul-result-2
 overflow_mul-result-2 c =
-    let a = c.requires.in_range in
-    let b = c.requires.in_range_2 in
+    let a = c.requires.a_in_range in
+    let b = c.requires.b_in_range in
     mul_fits (gap b.near_y a.near_y) (gap b.near_y a.near_y) tt
 
 pub overflow_add-result : goal.overflow_add-result
 overflow_add-result c =
-    let a = c.requires.in_range in
-    let b = c.requires.in_range_2 in
+    let a = c.requires.a_in_range in
+    let b = c.requires.b_in_range in
     add_fits (mul_reads (gap b.near_x a.near_x) (gap b.near_x a.near_x) tt)
     (mul_reads (gap b.near_y a.near_y) (gap b.near_y a.near_y) tt) tt
 
 pub returns : goal.returns
 unfolding weight
 returns c =
-    let a = c.requires.in_range in
-    let b = c.requires.in_range_2 in
+    let a = c.requires.a_in_range in
+    let b = c.requires.b_in_range in
     record {
       weighed =
           (add_reads (mul_reads (gap b.near_x a.near_x) (gap b.near_x a.near_x) tt)

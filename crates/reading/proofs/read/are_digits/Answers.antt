@@ -1,7 +1,6 @@
 -- `read::are_digits` meets its contract. The invariant: the bytes passed are digits. Assumes nothing.
 use mathlib.Core.Path.{sym, ◌∙◌}
 use native.Mathlib.Omega.{arith}
-use borrow.Author.Tests.{not-true, not-false}
 use Rattle.plane.proofs.Laws.Numbers.{all_more, all_no, all_end}
 use Rattle.reading.specs.Text.{all_digits}
 use Rattle.reading.proofs.Text.{digits_none, digit_is}
@@ -21,7 +20,7 @@ returns-then-not-is_digit c =
     record {
       digits =
           sym
-              (all_no _ l.i _ (omega arith) (digit_is _ _ _ l.invariant.0 ∙ sym c.is_digit.ensures.digit ∙ c.if-not-is_digit.true));
+          (all_no _ l.i _ (omega arith) (digit_is _ _ _ l.invariant.0 ∙ sym c.is_digit.ensures.digit ∙ c.if-not-is_digit.true));
     }
 
 pub overflow_add-i : goal.overflow_add-i

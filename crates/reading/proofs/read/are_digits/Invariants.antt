@@ -1,4 +1,4 @@
--- `read::are_digits` meets its contract. The invariant: the bytes passed are digits. Assumes nothing.
+-- The invariant of the loop of `read::are_digits`: the bytes passed are digits.
 use mathlib.Core.Path.{◌≡◌}
 use mathlib.Core.Bool.{true}
 use Prim.Native.Nat.{◌-◌, ◌≤◌}

@@ -21,10 +21,10 @@ pub number-requires-clause-part : goal.number-requires-clause-part
 unfolding is_budget
 number-requires-clause-part c = c.requires.part
 
-pub number-requires-clause-e_value : goal.number-requires-clause-e_value
+pub number-requires-clause-is_number : goal.number-requires-clause-is_number
 unfolding is_budget
-number-requires-clause-e_value c =
-    sym (cond_no _ _ (plain (goal.at.number-requires-clause-e_value c).Else-is_only)) ∙ c.requires.e_value
+number-requires-clause-is_number c =
+    sym (cond_no _ _ (plain (goal.at.number-requires-clause-is_number c).Else-is_only)) ∙ c.requires.is_budget
 
 pub returns : goal.returns
 unfolding budget_of

@@ -1,4 +1,4 @@
--- `read::first_bad` meets its contract. The invariant: the place is where line n starts, and the lines passed are good. Assumes nothing.
+-- The invariant of the loop of `read::first_bad`: the place is where line n starts, and the lines passed are good.
 use mathlib.Core.Path.{◌≡◌}
 use mathlib.Core.Bool.{false}
 use Prim.Native.Nat.{ℕ, ◌-◌, ◌≤◌, ◌<◌}

@@ -12,14 +12,13 @@ use Rattle.reading.proofs.read.number.Goals.{In-loop-k}
 -- the digits passed are eight at most
 passed : (c : In-loop-k) → c.loop-k.v < 100000000
 passed c =
-    let s = c in
-    let l = number-length _ _ _ _ s.requires.e_value in
-    let b = value_small _ _ _ _ s.requires.e_value c.loop-k.k 8 (omega arith) (omega arith) in
+    let l = number-length _ _ _ _ c.requires.is_number in
+    let b = value_small _ _ _ _ c.requires.is_number c.loop-k.k 8 (omega arith) (omega arith) in
     omega arith
 
 -- the next byte is a digit
 next : (c : In-loop-k) → (48 ≤ byte_at c.args.text.now (c.args.a + c.loop-k.k)) × (byte_at c.args.text.now (c.args.a + c.loop-k.k) ≤ 57)
-next c = digit_range _ (number_digit _ _ _ _ c.requires.e_value c.loop-k.k (omega arith))
+next c = digit_range _ (number_digit _ _ _ _ c.requires.is_number c.loop-k.k (omega arith))
 
 pub loop-k-init : goal.loop-k-init
 unfolding spelled
@@ -43,7 +42,7 @@ overflow_cast-v c = omega (arith, (next (goal.at.overflow_cast-v c).In-loop-k).1
 pub overflow_add-v-in-loop-k : goal.overflow_add-v-in-loop-k
 overflow_add-v-in-loop-k c =
     omega
-        (arith, passed (goal.at.overflow_add-v-in-loop-k c).In-loop-k, (next (goal.at.overflow_add-v-in-loop-k c).In-loop-k).1)
+    (arith, passed (goal.at.overflow_add-v-in-loop-k c).In-loop-k, (next (goal.at.overflow_add-v-in-loop-k c).In-loop-k).1)
 
 pub overflow_add-k : goal.overflow_add-k
 overflow_add-k c = omega arith

@@ -1,4 +1,4 @@
--- `read::number` meets its contract. The invariant: v is what the digits passed spell, so that it stays below 10 to their number. Assumes nothing.
+-- The invariant of the loop of `read::number`: v is what the digits passed spell, so that it stays below 10 to their number.
 use mathlib.Core.Path.{◌≡◌}
 use Prim.Native.Nat.{◌-◌, ◌≤◌}
 use Rattle.reading.specs.Text.{spelled}

@@ -1,4 +1,4 @@
--- `read::place_of` meets its contract. The invariant: b stands at no place passed. Assumes nothing.
+-- The invariant of the loop of `read::place_of`: b stands at no place passed.
 use mathlib.Core.Path.{◌≡◌}
 use mathlib.Core.Bool.{false}
 use Prim.Native.Nat.{ℕ, ◌-◌, ◌≤◌, ◌<◌}

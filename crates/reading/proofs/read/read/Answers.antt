@@ -69,22 +69,19 @@ store-count-requires-clause-numbers_len c = c.requires
 pub budget-requires : goal.budget-requires
 budget-requires c =
     let r = readable (goal.at.budget-requires c).Else-bad-text in
-    let t = c.args.text.now in
     record {
       part = subst (Part _ _) (sym c.place_of-e.ensures.placed) (place_part _ _ _ (search rules));
-      e_value = subst (λ (e : ℕ). is_budget t 0 e ≡ true) (sym c.place_of-e.ensures.placed) (first_budget _ r);
+      is_budget = subst (λ (e : ℕ). is_budget c.args.text.now 0 e ≡ true) (sym c.place_of-e.ensures.placed) (first_budget _ r);
     }
 
 pub returns-clause-answered : goal.returns-clause-answered
 returns-clause-answered c =
-    let t = c.args.text.now in
-    let s = c.store-count.ensures in
     let g = good_text _ (readable (goal.at.returns-clause-answered c).Else-bad-text) in
-    ap₂ Read (c.budget.ensures.valued ∙ ap (budget_of t 0) c.place_of-e.ensures.placed) s.counted ∙ g
+    ap₂ Read (c.budget.ensures.valued ∙ ap (budget_of c.args.text.now 0) c.place_of-e.ensures.placed)
+    c.store-count.ensures.counted ∙
+    g
 
 pub returns-clause-stored : goal.returns-clause-stored
 returns-clause-stored c =
-    let t = c.args.text.now in
-    let s = c.store-count.ensures in
     let g = good_text _ (readable (goal.at.returns-clause-stored c).Else-bad-text) in
-    s.stored ∙ filled _ _ _ _ g
+    c.store-count.ensures.stored ∙ filled _ _ _ _ g

@@ -50,8 +50,8 @@ place_of-e-requires c = c.loop-at.invariant.2
 pub coordinate-requires-clause-part : goal.coordinate-requires-clause-part
 coordinate-requires-clause-part c = (line (goal.at.coordinate-requires-clause-part c).After-place_of-e).left
 
-pub coordinate-requires-clause-e_value : goal.coordinate-requires-clause-e_value
-coordinate-requires-clause-e_value c = (line (goal.at.coordinate-requires-clause-e_value c).After-place_of-e).x_good
+pub coordinate-requires-clause-is_coordinate : goal.coordinate-requires-clause-is_coordinate
+coordinate-requires-clause-is_coordinate c = (line (goal.at.coordinate-requires-clause-is_coordinate c).After-place_of-e).x_good
 
 pub overflow_mul-numbers : goal.overflow_mul-numbers
 overflow_mul-numbers c = omega arith
@@ -65,15 +65,15 @@ bounds-numbers-k c = omega (arith, room (goal.at.bounds-numbers-k c).After-place
 pub overflow_add-s : goal.overflow_add-s
 overflow_add-s c =
     omega
-        (arith, (line (goal.at.overflow_add-s c).After-place_of-e).right.ordered, (line (goal.at.overflow_add-s c).After-place_of-e).right.within)
+    (arith, (line (goal.at.overflow_add-s c).After-place_of-e).right.ordered, (line (goal.at.overflow_add-s c).After-place_of-e).right.within)
 
 pub coordinate-requires-in-loop-at-clause-part : goal.coordinate-requires-in-loop-at-clause-part
 coordinate-requires-in-loop-at-clause-part c =
     (line (goal.at.coordinate-requires-in-loop-at-clause-part c).After-place_of-e).right
 
-pub coordinate-requires-in-loop-at-clause-e_value : goal.coordinate-requires-in-loop-at-clause-e_value
-coordinate-requires-in-loop-at-clause-e_value c =
-    (line (goal.at.coordinate-requires-in-loop-at-clause-e_value c).After-place_of-e).y_good
+pub coordinate-requires-in-loop-at-clause-is_coordinate : goal.coordinate-requires-in-loop-at-clause-is_coordinate
+coordinate-requires-in-loop-at-clause-is_coordinate c =
+    (line (goal.at.coordinate-requires-in-loop-at-clause-is_coordinate c).After-place_of-e).y_good
 
 pub overflow_mul-k : goal.overflow_mul-k
 overflow_mul-k c = omega (arith, room (goal.at.overflow_mul-k c).After-place_of-e)
@@ -101,8 +101,7 @@ loop-at-smaller c = omega (arith, (line (goal.at.loop-at-smaller c).After-place_
 pub loop-at-preserved : goal.loop-at-preserved
 loop-at-preserved c =
     let l = c.loop-at in
-    let m = line (goal.at.loop-at-preserved c).After-place_of-e in
-    (
+    let m = line (goal.at.loop-at-preserved c).After-place_of-e in (
       m.next,
       omega (arith, m.long),
       omega (arith, m.ended),

@@ -1,5 +1,5 @@
--- `read::store` meets its contract. The invariant: the place is where line k + 1 starts, and the numbers of the first k marks
--- stand at the list's start. A mark takes four bytes at least, so that 2,048 numbers are room enough. Assumes nothing.
+-- The invariant of the loop of `read::store`: the place is where line k + 1 starts, and the numbers of the first k marks stand at
+-- the list's start. A mark takes four bytes at least, so that 2,048 numbers are room enough.
 use mathlib.Core.Path.{◌≡◌}
 use mathlib.Core.Bool.{false}
 use mathlib.Core.List.{◌++◌}

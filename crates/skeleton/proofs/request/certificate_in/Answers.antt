@@ -31,11 +31,11 @@ certificate_with-requires-clause-own_len c = room _ (small c.requires.plate c.re
 pub certificate_with-requires-clause-a_lt_b : goal.certificate_with-requires-clause-a_lt_b
 certificate_with-requires-clause-a_lt_b c = c.requires.a_lt_b
 
-pub certificate_with-requires-clause-mark : goal.certificate_with-requires-clause-mark
-certificate_with-requires-clause-mark c = c.requires.mark
+pub certificate_with-requires-clause-b_is_mark : goal.certificate_with-requires-clause-b_is_mark
+certificate_with-requires-clause-b_is_mark c = c.requires.b_is_mark
 
-pub certificate_with-requires-clause-b_value : goal.certificate_with-requires-clause-b_value
-certificate_with-requires-clause-b_value c = c.requires.b_value
+pub certificate_with-requires-clause-empty : goal.certificate_with-requires-clause-empty
+certificate_with-requires-clause-empty c = c.requires.empty
 
 pub returns : goal.returns
 returns c = record { first = c.certificate_with.ensures.first }

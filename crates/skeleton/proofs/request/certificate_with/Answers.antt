@@ -14,8 +14,8 @@ mark_edges-requires-clause-plate c = c.requires.plate
 pub mark_edges-requires-clause-st_len : goal.mark_edges-requires-clause-st_len
 mark_edges-requires-clause-st_len c = c.requires.own_len
 
-pub mark_edges-requires-clause-filled_2 : goal.mark_edges-requires-clause-filled_2
-mark_edges-requires-clause-filled_2 c = fill_start _ refl
+pub mark_edges-requires-clause-filled_before : goal.mark_edges-requires-clause-filled_before
+mark_edges-requires-clause-filled_before c = fill_start _ refl
 
 pub keep_common-requires : goal.keep_common-requires
 keep_common-requires c = ap length c.mark_edges.ensures.edges ∙ edges_long _ ∙ sym c.requires.st_len
@@ -50,11 +50,11 @@ first_certificate-requires-clause-rows c =
 pub first_certificate-requires-clause-p_lt_q : goal.first_certificate-requires-clause-p_lt_q
 first_certificate-requires-clause-p_lt_q c = c.requires.a_lt_b
 
-pub first_certificate-requires-clause-mark : goal.first_certificate-requires-clause-mark
-first_certificate-requires-clause-mark c = c.requires.mark
+pub first_certificate-requires-clause-q_is_mark : goal.first_certificate-requires-clause-q_is_mark
+first_certificate-requires-clause-q_is_mark c = c.requires.b_is_mark
 
-pub first_certificate-requires-clause-q_value : goal.first_certificate-requires-clause-q_value
-first_certificate-requires-clause-q_value c = c.requires.b_value
+pub first_certificate-requires-clause-empty : goal.first_certificate-requires-clause-empty
+first_certificate-requires-clause-empty c = c.requires.empty
 
 pub returns : goal.returns
 returns c = record { first = c.first_certificate.ensures.first }

@@ -10,14 +10,11 @@ use Rattle.skeleton.proofs.request.certify.Goals as goal
 pub kind_of-k-requires-clause-plate : goal.kind_of-k-requires-clause-plate
 kind_of-k-requires-clause-plate c = c.requires.plate
 
-pub kind_of-k-requires-clause-mark : goal.kind_of-k-requires-clause-mark
-kind_of-k-requires-clause-mark c =
-    let h = c.requires in
-    let u = c.requires.a_lt_b in
-    omega arith
+pub kind_of-k-requires-clause-a_is_mark : goal.kind_of-k-requires-clause-a_is_mark
+kind_of-k-requires-clause-a_is_mark c = omega arith
 
-pub kind_of-k-requires-clause-mark_2 : goal.kind_of-k-requires-clause-mark_2
-kind_of-k-requires-clause-mark_2 c = c.requires.mark
+pub kind_of-k-requires-clause-b_is_mark : goal.kind_of-k-requires-clause-b_is_mark
+kind_of-k-requires-clause-b_is_mark c = c.requires.b_is_mark
 
 pub certificate_in-c-requires-clause-plate : goal.certificate_in-c-requires-clause-plate
 certificate_in-c-requires-clause-plate c = c.requires.plate
@@ -28,19 +25,19 @@ certificate_in-c-requires-clause-st_len c = c.requires.st_len
 pub certificate_in-c-requires-clause-a_lt_b : goal.certificate_in-c-requires-clause-a_lt_b
 certificate_in-c-requires-clause-a_lt_b c = c.requires.a_lt_b
 
-pub certificate_in-c-requires-clause-mark : goal.certificate_in-c-requires-clause-mark
-certificate_in-c-requires-clause-mark c = c.requires.mark
+pub certificate_in-c-requires-clause-b_is_mark : goal.certificate_in-c-requires-clause-b_is_mark
+certificate_in-c-requires-clause-b_is_mark c = c.requires.b_is_mark
 
-pub certificate_in-c-requires-clause-b_value : goal.certificate_in-c-requires-clause-b_value
-certificate_in-c-requires-clause-b_value c = inner_empty _ _ _ (sym c.kind_of-k.ensures.kind ∙ c.in-Inner.is)
+pub certificate_in-c-requires-clause-empty : goal.certificate_in-c-requires-clause-empty
+certificate_in-c-requires-clause-empty c = inner_empty _ _ _ (sym c.kind_of-k.ensures.kind ∙ c.in-Inner.is)
 
-pub certificate_of-x-requires-clause-apart : goal.certificate_of-x-requires-clause-apart
-certificate_of-x-requires-clause-apart c =
-    (apexes_apart _ _ _ _ c.requires.plate.few c.requires.a_lt_b c.requires.mark (sym c.certificate_in-c.ensures.first ∙ c.in-Apexes.is)).0
+pub certificate_of-x-requires-clause-r_apart : goal.certificate_of-x-requires-clause-r_apart
+certificate_of-x-requires-clause-r_apart c =
+    (apexes_apart _ _ _ _ c.requires.plate.few c.requires.a_lt_b c.requires.b_is_mark (sym c.certificate_in-c.ensures.first ∙ c.in-Apexes.is)).0
 
-pub certificate_of-x-requires-clause-apart_2 : goal.certificate_of-x-requires-clause-apart_2
-certificate_of-x-requires-clause-apart_2 c =
-    (apexes_apart _ _ _ _ c.requires.plate.few c.requires.a_lt_b c.requires.mark (sym c.certificate_in-c.ensures.first ∙ c.in-Apexes.is)).1
+pub certificate_of-x-requires-clause-s_apart : goal.certificate_of-x-requires-clause-s_apart
+certificate_of-x-requires-clause-s_apart c =
+    (apexes_apart _ _ _ _ c.requires.plate.few c.requires.a_lt_b c.requires.b_is_mark (sym c.certificate_in-c.ensures.first ∙ c.in-Apexes.is)).1
 
 pub returns-in-Blocked : goal.returns-in-Blocked
 returns-in-Blocked c = record {

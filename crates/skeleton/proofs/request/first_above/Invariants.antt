@@ -1,4 +1,4 @@
--- `request::first_above` meets its contract. The invariant: the bytes passed are not above 2. Assumes nothing.
+-- The invariant of the loop of `request::first_above`: the bytes passed are not above 2.
 use mathlib.Core.Path.{◌≡◌}
 use mathlib.Core.Bool.{false}
 use Prim.Native.Nat.{ℕ, ◌-◌, ◌≤◌, ◌<◌}

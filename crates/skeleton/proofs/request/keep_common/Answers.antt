@@ -12,31 +12,21 @@ pub loop-i-init : goal.loop-i-init
 loop-i-init c = (search rules, filling_none _ _)
 
 pub bounds-st-i : goal.bounds-st-i
-bounds-st-i c =
-    let s = c.loop-i.invariant.1.size in
-    let e = c.requires in
-    omega arith
+bounds-st-i c = omega arith
 
 pub bounds-own-i-in-loop-i : goal.bounds-own-i-in-loop-i
-bounds-own-i-in-loop-i c =
-    let s = c.loop-i.invariant.1.size in
-    omega arith
+bounds-own-i-in-loop-i c = omega arith
 
 pub loop-i-smaller : goal.loop-i-smaller
-loop-i-smaller c =
-    let s = c.loop-i.invariant.1.size in
-    omega arith
+loop-i-smaller c = omega arith
 
 pub loop-i-preserved : goal.loop-i-preserved
-loop-i-preserved c =
-    let s = c.loop-i.invariant.1.size in (
-      omega arith,
-      filling_next c.loop-i.invariant.1 _ (omega arith) (c.common_byte-x.ensures.kept ∙ ap
-          (λ (x : ℕ). common_byte x (get_or c.args.st.now c.loop-i.i 0)) (c.loop-i.invariant.1.rest _ (omega arith))),
-    )
+loop-i-preserved c = (
+  omega arith,
+  filling_next c.loop-i.invariant.1 _ (omega arith) (c.common_byte-x.ensures.kept ∙ ap
+      (λ (x : ℕ). common_byte x (get_or c.args.st.now c.loop-i.i 0)) (c.loop-i.invariant.1.rest _ (omega arith))),
+)
 
 pub returns : goal.returns
 unfolding common
-returns c =
-    let s = c.loop-i.invariant.1.size in
-    record { kept = filling_end c.loop-i.invariant.1 _ refl (omega arith) }
+returns c = record { kept = filling_end c.loop-i.invariant.1 _ refl (omega arith) }

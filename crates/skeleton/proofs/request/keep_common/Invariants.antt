@@ -1,4 +1,4 @@
--- `request::keep_common` meets its contract. The invariant: the bytes below i are the common ones. Assumes nothing.
+-- The invariant of the loop of `request::keep_common`: the bytes below i are the common ones.
 use Prim.Native.Nat.{◌-◌, ◌≤◌}
 use lib.ListN.{length, get_or}
 use Rattle.skeleton.specs.Common.{common_byte}

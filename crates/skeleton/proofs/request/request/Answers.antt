@@ -22,8 +22,8 @@ certify-requires-clause-a_lt_b c =
     let e = accepted_request _ _ _ _ (sym c.check_request-v.ensures.answered ∙ c.in-Accepted.is) in
     e.1.up
 
-pub certify-requires-clause-mark : goal.certify-requires-clause-mark
-certify-requires-clause-mark c =
+pub certify-requires-clause-b_is_mark : goal.certify-requires-clause-b_is_mark
+certify-requires-clause-b_is_mark c =
     let e = accepted_request _ _ _ _ (sym c.check_request-v.ensures.answered ∙ c.in-Accepted.is) in
     e.1.marks
 

@@ -19,8 +19,8 @@ mark_edges-requires-clause-plate c = c.requires.plate
 pub mark_edges-requires-clause-st_len : goal.mark_edges-requires-clause-st_len
 mark_edges-requires-clause-st_len c = c.requires.st_len
 
-pub mark_edges-requires-clause-filled_2 : goal.mark_edges-requires-clause-filled_2
-mark_edges-requires-clause-filled_2 c = fill_start _ refl
+pub mark_edges-requires-clause-filled_before : goal.mark_edges-requires-clause-filled_before
+mark_edges-requires-clause-filled_before c = fill_start _ refl
 
 pub fill_rows-requires-clause-plate : goal.fill_rows-requires-clause-plate
 unfolding plate

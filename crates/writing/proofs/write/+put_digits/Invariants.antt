@@ -1,4 +1,4 @@
--- `write::put_digits` calls itself at the number's tenth. Assumes nothing.
+-- The measure of `write::put_digits`: it calls itself at the number's tenth.
 use Rattle.writing.proofs.write.+put_digits.Given as goal
 
 abbrev pub decreases-put_digits : goal.decreases-put_digits

@@ -1,4 +1,4 @@
--- `write::put_bytes` meets its contract. The loop's invariant: the first `i` bytes of the word are put. Assumes nothing.
+-- The invariant of the loop of `write::put_bytes`: the first `i` bytes of the word are put.
 use mathlib.Core.Path.{◌≡◌}
 use Prim.Native.Nat.{◌≤◌, ◌-◌}
 use lib.ListN.{length, take}

@@ -4,9 +4,7 @@ use Rattle.writing.proofs.Places.{room_first, room_rest, puts_then}
 use Rattle.writing.proofs.write.put_number.Goals as goal
 
 pub put_digits-next-requires : goal.put_digits-next-requires
-put_digits-next-requires c =
-    let start = c in
-    room_first (start.args.end ∷ []) start.requires
+put_digits-next-requires c = room_first (c.args.end ∷ []) c.requires
 
 pub put_byte-requires : goal.put_byte-requires
 put_byte-requires c = room_rest c.requires c.put_digits-next.ensures.put

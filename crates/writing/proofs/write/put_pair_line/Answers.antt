@@ -31,5 +31,5 @@ returns c =
     record {
       put =
           puts_is (sym (line_three _ _ _))
-              (puts_then room first (puts_then (room_rest room first) c.put_number-third.ensures.put c.put_word.ensures.put));
+          (puts_then room first (puts_then (room_rest room first) c.put_number-third.ensures.put c.put_word.ensures.put));
     }

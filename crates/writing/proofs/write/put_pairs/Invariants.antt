@@ -1,5 +1,4 @@
--- `write::put_pairs` meets its contract. The loop's invariant: `p` is the pair number `i`, and the lines of the pairs before it are put.
--- Assumes nothing.
+-- The invariant of the loop of `write::put_pairs`: `p` is the pair number `i`, and the lines of the pairs before it are put.
 use mathlib.Core.Path.{◌≡◌}
 use Prim.Native.Nat.{◌≤◌, ◌-◌}
 use lib.ListN.{length}

@@ -4,9 +4,7 @@ use Rattle.writing.proofs.Places.{room_first, room_rest, puts_then}
 use Rattle.writing.proofs.write.put_word.Goals as goal
 
 pub put_bytes-next-requires : goal.put_bytes-next-requires
-put_bytes-next-requires c =
-    let start = c in
-    room_first (start.args.end ∷ []) start.requires
+put_bytes-next-requires c = room_first (c.args.end ∷ []) c.requires
 
 pub put_byte-requires : goal.put_byte-requires
 put_byte-requires c = room_rest c.requires c.put_bytes-next.ensures.put

@@ -20,14 +20,10 @@ pub put_outcome-next-requires : goal.put_outcome-next-requires
 put_outcome-next-requires c = room_first _ (lines (goal.at.put_outcome-next-requires c).Start)
 
 pub put_pairs-requires-clause-n_bound : goal.put_pairs-requires-clause-n_bound
-put_pairs-requires-clause-n_bound c =
-    let start = c in
-    start.requires.n_bound
+put_pairs-requires-clause-n_bound c = c.requires.n_bound
 
 pub put_pairs-requires-clause-st_len : goal.put_pairs-requires-clause-st_len
-put_pairs-requires-clause-st_len c =
-    let start = c in
-    start.requires.st_len
+put_pairs-requires-clause-st_len c = c.requires.st_len
 
 pub put_pairs-requires-clause-room : goal.put_pairs-requires-clause-room
 put_pairs-requires-clause-room c =
@@ -35,18 +31,14 @@ put_pairs-requires-clause-room c =
 
 pub returns-clause-counted : goal.returns-clause-counted
 returns-clause-counted c =
-    let start = c in
-    let a = start.args in
     let put =
-        puts_is (sym (listing_is a.done a.examinations a.st.now a.n))
-            (puts_then (lines (goal.at.returns-clause-counted c).Start) c.put_outcome-next.ensures.put c.put_pairs.ensures.put) in
+    puts_is (sym (listing_is c.args.done c.args.examinations c.args.st.now c.args.n))
+    (puts_then (lines (goal.at.returns-clause-counted c).Start) c.put_outcome-next.ensures.put c.put_pairs.ensures.put) in
     start_length put
 
 pub returns-clause-written : goal.returns-clause-written
 returns-clause-written c =
-    let start = c in
-    let a = start.args in
     let put =
-        puts_is (sym (listing_is a.done a.examinations a.st.now a.n))
-            (puts_then (lines (goal.at.returns-clause-written c).Start) c.put_outcome-next.ensures.put c.put_pairs.ensures.put) in
+    puts_is (sym (listing_is c.args.done c.args.examinations c.args.st.now c.args.n))
+    (puts_then (lines (goal.at.returns-clause-written c).Start) c.put_outcome-next.ensures.put c.put_pairs.ensures.put) in
     start_filled put

@@ -28,20 +28,18 @@ put_number-requires c =
 
 pub returns-clause-counted : goal.returns-clause-counted
 returns-clause-counted c =
-    let start = c in
     let room = fields (goal.at.returns-clause-counted c).Start in
     let first = c.put_word-second.ensures.put in
     let put =
-        puts_is (sym (refused_is start.args.number start.args.detail))
-            (puts_then room first (puts_then (room_rest room first) c.put_number-third.ensures.put c.put_number.ensures.put)) in
+    puts_is (sym (refused_is c.args.number c.args.detail))
+    (puts_then room first (puts_then (room_rest room first) c.put_number-third.ensures.put c.put_number.ensures.put)) in
     start_length put
 
 pub returns-clause-written : goal.returns-clause-written
 returns-clause-written c =
-    let start = c in
     let room = fields (goal.at.returns-clause-written c).Start in
     let first = c.put_word-second.ensures.put in
     let put =
-        puts_is (sym (refused_is start.args.number start.args.detail))
-            (puts_then room first (puts_then (room_rest room first) c.put_number-third.ensures.put c.put_number.ensures.put)) in
+    puts_is (sym (refused_is c.args.number c.args.detail))
+    (puts_then room first (puts_then (room_rest room first) c.put_number-third.ensures.put c.put_number.ensures.put)) in
     start_filled put
