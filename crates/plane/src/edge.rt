@@ -40,6 +40,7 @@ pub fn is_on_segment(a: Point, b: Point, k: Point) -> bool
 }
 
 // Mark k is an end of (a, b), or off the segment.
+#[tactic(auto, unfolding(crate::specs::Edge::clear))]
 pub fn is_clear(m: &[i32], a: usize, b: usize, k: usize) -> bool
     requires plate { Plate m.now }
     requires a_is_mark { IsMark m.now a }

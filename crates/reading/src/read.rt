@@ -16,6 +16,9 @@ pub enum Reading {
 // What "-" stands for.
 const DASH_BUDGET: u32 = 1000;
 
+// The bytes that a text may have.
+const LONGEST: usize = 4096;
+
 // The first place, at `at` or later, at which b stands; the text's length where there is none.
 fn place_of(text: &[u8], at: usize, b: u8) -> usize
     requires { at ≤ length text.now }
@@ -240,7 +243,7 @@ pub fn read(text: &[u8], numbers: &mut [i32]) -> Reading
     ensures answered { result ≡ reading_of text.now }
     ensures stored { numbers.new ≡ numbers_after text.now numbers.old }
 {
-    if 4096 < text.len() {
+    if LONGEST < text.len() {
         return Reading::Refused(0);
     }
     if text.len() == 0 {

@@ -17,19 +17,19 @@ use Rattle.reading.proofs.read.read.Goals.{Else-bad-text}
 readable : (c : Else-bad-text) → Readable c.args.text.now
 readable c =
     record {
-      short = c.if-text-gt4096.false;
+      short = c.if-text-gt-LONGEST.false;
       some = let n = c.if-text-eq0.false in omega arith;
       good = subst (λ (n : ℕ). length c.args.text.now ≤ n) c.first_bad-bad.ensures.first c.if-bad-text.false;
     }
 
-pub returns-then-text-gt4096-clause-answered : goal.returns-then-text-gt4096-clause-answered
-returns-then-text-gt4096-clause-answered c =
-    let e = too_long _ c.if-text-gt4096.true in
+pub returns-then-text-gt-LONGEST-clause-answered : goal.returns-then-text-gt-LONGEST-clause-answered
+returns-then-text-gt-LONGEST-clause-answered c =
+    let e = too_long _ c.if-text-gt-LONGEST.true in
     e
 
-pub returns-then-text-gt4096-clause-stored : goal.returns-then-text-gt4096-clause-stored
-returns-then-text-gt4096-clause-stored c =
-    let e = too_long _ c.if-text-gt4096.true in
+pub returns-then-text-gt-LONGEST-clause-stored : goal.returns-then-text-gt-LONGEST-clause-stored
+returns-then-text-gt-LONGEST-clause-stored c =
+    let e = too_long _ c.if-text-gt-LONGEST.true in
     kept _ _ _ e
 
 pub returns-then-text-eq0-clause-answered : goal.returns-then-text-eq0-clause-answered
@@ -47,7 +47,7 @@ returns-then-bad-text-clause-answered c =
     let f = c.first_bad-bad.ensures.first in
     let e =
     ap (λ (n : ℕ). Refused (n + 1)) f ∙
-    bad_line _ c.if-text-gt4096.false c.if-text-eq0.false
+    bad_line _ c.if-text-gt-LONGEST.false c.if-text-eq0.false
     (subst (λ (n : ℕ). n < length c.args.text.now) f c.if-bad-text.true) in
     e
 
@@ -56,7 +56,7 @@ returns-then-bad-text-clause-stored c =
     let f = c.first_bad-bad.ensures.first in
     let e =
     ap (λ (n : ℕ). Refused (n + 1)) f ∙
-    bad_line _ c.if-text-gt4096.false c.if-text-eq0.false
+    bad_line _ c.if-text-gt-LONGEST.false c.if-text-eq0.false
     (subst (λ (n : ℕ). n < length c.args.text.now) f c.if-bad-text.true) in
     kept _ _ _ e
 
