@@ -159,7 +159,7 @@ def lined_up(before, after):
             j += 1
         block = after[i:j]
         if block and block != before[i:j]:
-            width = max((len(m.group(1)) for m in map(ENTRY.match, block) if m), default=0)
+            width = max((len(m.group(1)) for m in map(ENTRY.match, block) if m and len(m.group(1)) <= 34), default=0)
             for line in block:
                 m, n = ENTRY.match(line), MORE.match(line)
                 if n and not (m and len(line) - len(m.group(3)) < 12 and not line.startswith("--      ")):

@@ -1,11 +1,11 @@
 -- What each function of include/skeleton.h answers: the number that it returns, and what it leaves in each lent buffer.
---   version                                                            the version of the interface
---   Told, told number numbers                                          a reply: the status number, and the numbers for the result buffer
---   returned result x                                                  the number returned, where the reply is x and the result buffer holds `result`
---   written result x                                                   the result buffer on return
+--   version                    the version of the interface
+--   Told, told number numbers  a reply: the status number, and the numbers for the result buffer
+--   returned result x          the number returned, where the reply is x and the result buffer holds `result`
+--   written result x           the result buffer on return
 --   search_reply, certificate_reply, pair_reply, longest_budget_reply  the reply of each function
---   search_status                                                      the status buffer when the search returns
---   longest_budget n                                                   the longest budget that a plate of n marks can need
+--   search_status              the status buffer when the search returns
+--   longest_budget n           the longest budget that a plate of n marks can need
 use Rattle.std.specs.Prelude.{Bool, false, cond, List, [], ◌∷◌, ◌++◌, ℕ, ◌+◌, ◌*◌, ◌/◌, ltb, ℤ, length, drop}
 use Rattle.pairs.specs.Pairs.{pair_count, pair_number}
 use Rattle.certificates.specs.declared.certificate.Certificate.{Certificate}

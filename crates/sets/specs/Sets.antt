@@ -1,9 +1,9 @@
 -- Sets of numbers below 128, as the code keeps them: two words of 64 digits, the lowest digit first.
---   word f k j                                        the numbers k to k + j - 1 that have f, as a word: its lowest digit stands for k
---   set_of f                                          the set of the numbers below 128 that have f
---   in_word w k i                                     i is in the word w, whose lowest digit stands for k
---   has s i                                           i is in the set s
---   none s                                            s is empty
+--   word f k j     the numbers k to k + j - 1 that have f, as a word: its lowest digit stands for k
+--   set_of f       the set of the numbers below 128 that have f
+--   in_word w k i  i is in the word w, whose lowest digit stands for k
+--   has s i        i is in the set s
+--   none s         s is empty
 --   both f g, either f g, including f k, without f k  f and g; f or g; f, and k too; f, and k no more
 use Rattle.std.specs.Prelude.{Bool, true, false, not, cond, ℕ, zero, suc, ◌+◌, ◌*◌, ◌-◌, ◌/◌, ◌%◌, ◌^◌, eqb, ltb}
 use Rattle.plane.specs.Numbers.{all_to}
