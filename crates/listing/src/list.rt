@@ -41,8 +41,8 @@ pub fn list(m: &[i32], st: &mut [u8], budget: u32, out: &mut [u8]) -> usize
 
 // The same, with status bytes that are all cleared; a part of them is lent.
 fn list_cleared(m: &[i32], st: &mut [u8], budget: u32, out: &mut [u8]) -> usize
-    requires st_value { st.old ≡ replicate 8128 0 }
-    requires in_bounds { 138240 ≤ length out.old }
+    requires cleared { st.old ≡ replicate 8128 0 }
+    requires out_room { 138240 ≤ length out.old }
     ensures counted { result ≡ length (list_text m.now budget) }
     ensures written { out.new ≡ list_text m.now budget ++ drop (length (list_text m.now budget)) out.old }
     ensures status { st.new ≡ list_status m.now budget }
@@ -53,8 +53,8 @@ fn list_cleared(m: &[i32], st: &mut [u8], budget: u32, out: &mut [u8]) -> usize
 
 // The program, but for its input and output: reads the text, and writes its answer at the start of `out`.
 pub fn answer(text: &[u8], st: &mut [u8], out: &mut [u8]) -> usize
-    requires st_value { st.old ≡ replicate 8128 0 }
-    requires in_bounds { 138240 ≤ length out.old }
+    requires cleared { st.old ≡ replicate 8128 0 }
+    requires out_room { 138240 ≤ length out.old }
     ensures counted { result ≡ length (answer_text text.now) }
     ensures written { out.new ≡ answer_text text.now ++ drop (length (answer_text text.now)) out.old }
     ensures fits { result ≤ length out.new }

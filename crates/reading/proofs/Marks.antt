@@ -15,7 +15,8 @@ use Rattle.plane.specs.Numbers.{first_to}
 use Rattle.plane.proofs.Laws.Tells.{cond_no}
 use Rattle.plane.proofs.Laws.Numbers.{first_here, first_none}
 use Rattle.reading.specs.Text.{Part, feed, space, place_of, is_coordinate, coordinate_of}
-use Rattle.reading.specs.Read.{is_budget, is_mark, is_mark_at, line_start, line_end, is_there, is_good_at, Readable, is_over, mark_count, x_of, y_of, numbers_to}
+use Rattle.reading.specs.Read.{is_budget, is_mark, is_mark_at, line_start, line_end, is_there, is_good_at}
+use Rattle.reading.specs.Read.{Readable, is_over, mark_count, x_of, y_of, numbers_to}
 use Rattle.reading.proofs.Lines.{next_start, second_start, over_yes, good_line, good_ended, first_ended}
 use Rattle.reading.proofs.Tests.{and_yes, before_or_from, before_first}
 use Rattle.reading.proofs.Text.{place_part, coordinate_some}

@@ -1,7 +1,8 @@
 // Reading the listing program's text. A part of the text goes from a place a to a place e; the byte at e does not belong to it. The
 // text is read by its lines, and twice: no number is stored before the whole text is known to be good, so that a refusal changes nothing.
 ghost use Rattle.std.specs.Prelude.{◌≡◌, true, ◌++◌, ◌*◌, ◌≤◌, ◌<◌, length, drop};
-ghost use Rattle.reading.specs.Text.{Part, place_of, is_only, starts_with, is_digit, all_digits, is_counting, is_number, value_of, is_coordinate, coordinate_of};
+ghost use Rattle.reading.specs.Text.{Part, place_of, is_only, starts_with, is_digit, all_digits, is_counting};
+ghost use Rattle.reading.specs.Text.{is_number, value_of, is_coordinate, coordinate_of};
 ghost use Rattle.reading.specs.Read.{is_budget, budget_of, is_mark, is_good_at, first_bad, Readable, mark_count, numbers_of, reading_of, numbers_after};
 
 // The answer to a text.
@@ -16,7 +17,7 @@ pub enum Reading {
 // What "-" stands for.
 const DASH_BUDGET: u32 = 1000;
 
-// The bytes that a text may have.
+// The most bytes that a text may have.
 const LONGEST: usize = 4096;
 
 // The first place, at `at` or later, at which b stands; the text's length where there is none.

@@ -28,7 +28,8 @@ use Rattle.skeleton.specs.declared.search.Outcome.{Outcome}
 use Rattle.skeleton.specs.declared.search.Outcome.TheVariants.{Done, Paused}
 use Rattle.certificates.specs.Plate.{plate}
 use Rattle.certificates.specs.Rule9.{IsPair}
-use Rattle.skeleton.specs.Answers.{or_else, buffer_row, is_above, first_above, byte_row, pair_row, search_refusal, request_refusal, told, outcome_after, outcome_of}
+use Rattle.skeleton.specs.Answers.{or_else, buffer_row, is_above, first_above, byte_row, pair_row}
+use Rattle.skeleton.specs.Answers.{search_refusal, request_refusal, told, outcome_after, outcome_of}
 use Rattle.skeleton.specs.Table.{SearchRow, RequestRow, list, buffer, byte, pair, uncrossed}
 use Rattle.skeleton.proofs.Settled.{not_accepted, or_first, or_second, At, Settled, settled_exactly, settled_none, settled_at, settled_or, settled_as, from_refused}
 

@@ -163,7 +163,7 @@ pub fn write_refusal(out: &mut [u8], number: u64, detail: u64) -> usize
 pub fn write_listing(out: &mut [u8], done: bool, examinations: u64, st: &[u8], n: usize) -> usize
     requires n_bound { n ≤ 128 }
     requires st_len { length st.now ≡ pair_count n }
-    requires in_bounds { 138240 ≤ length out.old }
+    requires out_room { 138240 ≤ length out.old }
     ensures counted { result ≡ length (listing_text done examinations st.now n) }
     ensures written { out.new ≡ listing_text done examinations st.now n ++ drop (length (listing_text done examinations st.now n)) out.old }
 {

@@ -33,7 +33,9 @@ fork true false false d n = refl
 fork false b c d n = refl
 
 four_sides :
-    (p q r i : Point) → cond (cond (left_of p r i) (left_of r q i) false) true (cond (left_of r p i) (left_of q r i) false) ≡ opposite (area2 r i p) (area2 r i q)
+    (p q r i : Point) →
+    cond (cond (left_of p r i) (left_of r q i) false) true (cond (left_of r p i) (left_of q r i) false) ≡
+    opposite (area2 r i p) (area2 r i q)
 unfolding opposite
 four_sides p q r i =
     fork (left_of p r i) (left_of r q i) (left_of r p i) (left_of q r i) (λ a c. clash (tells_yes left_of_tells a) (weak (tells_yes left_of_tells c)))

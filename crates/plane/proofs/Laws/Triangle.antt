@@ -86,7 +86,8 @@ triangle_swap : {m : List ℤ} {p q r : ℕ} → EmptyTriangle m p q r → Empty
 triangle_swap t = record { bent = λ z. t.bent (zswap z); pq = empty_swap t.pq; qr = empty_swap t.rp; rp = empty_swap t.qr; hollow = λ k h i. t.hollow k h (inside_swap i) }
 
 pub empty_triangle_rotate : (m : List ℤ) (p q r : ℕ) → empty_triangle m p q r ≡ empty_triangle m q r p
-empty_triangle_rotate m p q r = tells_same (empty_triangle_tells m p q r) (empty_triangle_tells m q r p) triangle_rotate (λ t. triangle_rotate (triangle_rotate t))
+empty_triangle_rotate m p q r =
+    tells_same (empty_triangle_tells m p q r) (empty_triangle_tells m q r p) triangle_rotate (λ t. triangle_rotate (triangle_rotate t))
 
 pub empty_triangle_swap : (m : List ℤ) (p q r : ℕ) → empty_triangle m p q r ≡ empty_triangle m q p r
 empty_triangle_swap m p q r = tells_same (empty_triangle_tells m p q r) (empty_triangle_tells m q p r) triangle_swap triangle_swap

@@ -127,7 +127,9 @@ module _ (ρ : ℕ → ℤ) where
   insert_v_sound v [] = refl
   insert_v_sound v (w ∷ m) = go (leb v w) (insert_v_sound v m)
     where
-      go : (b : Bool) → eval_m ρ (insert_v v m) ≡ ρ v *ℤ eval_m ρ m → eval_m ρ (elim b [ true ↦ v ∷ w ∷ m | false ↦ w ∷ insert_v v m ]) ≡ ρ v *ℤ (ρ w *ℤ eval_m ρ m)
+      go :
+          (b : Bool) → eval_m ρ (insert_v v m) ≡ ρ v *ℤ eval_m ρ m →
+          eval_m ρ (elim b [ true ↦ v ∷ w ∷ m | false ↦ w ∷ insert_v v m ]) ≡ ρ v *ℤ (ρ w *ℤ eval_m ρ m)
       go true h = refl
       go false h = ap (λ x. ρ w *ℤ x) h ∙ *ℤ-left-comm (ρ w) (ρ v) (eval_m ρ m)
 
@@ -210,7 +212,9 @@ module _ (ρ : ℕ → ℤ) where
   norm_sound (lit z) = cons_t_sound z 0 [] nil ∙ +ℤ_idr (z *ℤ pos 1) ∙ *ℤ_comm z (pos 1) ∙ one-*ℤ z
   norm_sound (neg a) = neg_p_sound (norm a) ∙ ap neg_ℤ (norm_sound a)
   norm_sound (a ⊕ b) = add_p_sound (norm a) (norm b) ∙ ap₂ (λ x y. x +ℤ y) (norm_sound a) (norm_sound b)
-  norm_sound (a ⊖ b) = add_p_sound (norm a) (mul_t (negsuc 0) 0 [] (norm b)) ∙ ap₂ (λ x y. x +ℤ y) (norm_sound a) (neg_p_sound (norm b) ∙ ap neg_ℤ (norm_sound b))
+  norm_sound (a ⊖ b) =
+      add_p_sound (norm a) (mul_t (negsuc 0) 0 [] (norm b)) ∙
+      ap₂ (λ x y. x +ℤ y) (norm_sound a) (neg_p_sound (norm b) ∙ ap neg_ℤ (norm_sound b))
   norm_sound (a ⊗ b) = prod_p_sound (norm a) (norm b) ∙ ap₂ (λ x y. x *ℤ y) (norm_sound a) (norm_sound b)
 
   nil_zero : (p : Poly) → T (is_nil p) → eval_p ρ p ≡ pos 0

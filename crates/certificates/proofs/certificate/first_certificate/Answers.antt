@@ -13,7 +13,8 @@ use Rattle.certificates.proofs.Stopped.{Stopped, nowhere, somewhere, stopped_now
 use Rattle.certificates.proofs.Candidates.{candidate_mark, right_mark}
 use Rattle.certificates.proofs.Apexes.{Given, p_small, q_small, left_miss, right_miss, match_no, match_yes}
 use Rattle.certificates.proofs.certificate.first_certificate.Goals as goal
-use Rattle.certificates.proofs.certificate.first_certificate.Goals.{else-search-test, then-search-test+then-loop-s-test+then-is_match, Left-search, In-loop-s, In-search, Start}
+use Rattle.certificates.proofs.certificate.first_certificate.Goals.{else-search-test, then-search-test+then-loop-s-test+then-is_match}
+use Rattle.certificates.proofs.certificate.first_certificate.Goals.{Left-search, In-loop-s, In-search, Start}
 
 -- ---- what is known at the places
 given : (a : Start) → Given a.args.m.now a.args.p a.args.q

@@ -21,7 +21,7 @@ slice_bounds-list_cleared-end c =
     (length-take-le _ _ (let n = count_small _ _ _ (sym (sym c.read-x.ensures.answered ∙ c.in-Read.is)) in omega arith))
 
 pub list_cleared-requires : goal.list_cleared-requires
-list_cleared-requires c = record { st_value = c.requires.st_value; in_bounds = c.requires.in_bounds }
+list_cleared-requires c = record { cleared = c.requires.cleared; out_room = c.requires.out_room }
 
 pub returns-in-Refused : goal.returns-in-Refused
 returns-in-Refused c =
@@ -33,7 +33,7 @@ returns-in-Refused c =
       counted = h.0;
       written = h.1;
       fits = stands_room c.args.out.now (answer_text c.args.text.now) h refl;
-      status = c.requires.st_value ∙ status_refused c.args.text.now e;
+      status = c.requires.cleared ∙ status_refused c.args.text.now e;
     }
 
 pub returns-in-Read : goal.returns-in-Read

@@ -18,7 +18,7 @@ write_listing-requires c =
     record {
       n_bound = subst (λ (k : ℕ). k ≤ 128) (sym e) l.few;
       st_len = ap length q.status ∙ l.long ∙ ap pair_count (sym e);
-      in_bounds = c.requires;
+      out_room = c.requires;
     }
 
 pub write_listing-requires-in-Paused : goal.write_listing-requires-in-Paused
@@ -29,7 +29,7 @@ write_listing-requires-in-Paused c =
     record {
       n_bound = subst (λ (k : ℕ). k ≤ 128) (sym e) l.few;
       st_len = ap length q.status ∙ l.long ∙ ap pair_count (sym e);
-      in_bounds = c.requires;
+      out_room = c.requires;
     }
 
 pub returns-in-Refused : goal.returns-in-Refused

@@ -13,7 +13,9 @@ use Rattle.reading.proofs.read.is_mark.Goals as goal
 use Rattle.reading.proofs.read.is_mark.Goals.{After-place_of-s, After-shared_slice_known-1}
 
 -- the space at its place
-spaced : (c : After-place_of-s) (t : Bool) → t ≡ is_mark_at c.args.text.now c.args.a c.place_of-s.result c.args.e → t ≡ is_mark_at c.args.text.now c.args.a (place_of space c.args.text.now c.args.a) c.args.e
+spaced :
+    (c : After-place_of-s) (t : Bool) → t ≡ is_mark_at c.args.text.now c.args.a c.place_of-s.result c.args.e →
+    t ≡ is_mark_at c.args.text.now c.args.a (place_of space c.args.text.now c.args.a) c.args.e
 spaced c t h = h ∙ ap (λ (s : ℕ). is_mark_at c.args.text.now c.args.a s c.args.e) c.place_of-s.ensures.placed
 
 within_text : (c : After-shared_slice_known-1) → c.args.a ≤ length c.args.text.now

@@ -14,7 +14,7 @@ lines : (c : Start) → Room c.args.out.now 0 (outcome_text c.args.done c.args.e
 lines c =
     let a = c.args in
     room_is (listing_is a.done a.examinations a.st.now a.n)
-    (record { fits = omega (arith, c.requires.in_bounds, listing_length a.done a.examinations a.st.now a.n c.ranges.examinations.fits c.requires.n_bound) })
+    (record { fits = omega (arith, c.requires.out_room, listing_length a.done a.examinations a.st.now a.n c.ranges.examinations.fits c.requires.n_bound) })
 
 pub put_outcome-next-requires : goal.put_outcome-next-requires
 put_outcome-next-requires c = room_first _ (lines (goal.at.put_outcome-next-requires c).Start)
