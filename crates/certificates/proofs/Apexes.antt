@@ -28,8 +28,8 @@ use Rattle.masks.proofs.Laws.Triangle.{hollow_left, hollow_right}
 use Rattle.masks.proofs.Laws.Cross.{split_crosses}
 use Rattle.striking.proofs.Tests as tests
 use Rattle.striking.proofs.Tests.{not_both, is_false, both_first, both_second}
-use Rattle.certificates.specs.declared.certificate.Pick.TheVariants.{Nothing, Apexes}
-use Rattle.certificates.specs.Certificate.{joined, holds_against, apex, left_apex, right_apex, fits, pick_fitting, pick_right}
+use Rattle.std.specs.Prelude.{None}
+use Rattle.certificates.specs.Certificate.{joined, holds_against, apex, left_apex, right_apex, fits, pick_fitting, pick_right, found}
 use Rattle.certificates.specs.Plate.{pairs_of, edges_of}
 use Rattle.certificates.specs.Rows.{candidate, right_candidate, goes_with}
 use Rattle.certificates.proofs.Rule7.{lighter, apex_is, left_apart}
@@ -121,16 +121,16 @@ module _ (m : List ℤ) (S : ℕ → Bool) (p q : ℕ) (given : Given m p q) whe
       is_candidate m K p q q p s hq hp hp hq hs d.1 d.0 j.0 j.1 (left_right _ _ _ ∙ l)
 
   -- ---- what is picked
-  pick_no : (r s : ℕ) → fits m K p q r s ≡ false → pick_fitting m K p q r s ≡ Nothing
+  pick_no : (r s : ℕ) → fits m K p q r s ≡ false → pick_fitting m K p q r s ≡ None
   unfolding pick_fitting
   pick_no r s e = cond_no _ _ e
 
-  pick_yes : (r s : ℕ) → fits m K p q r s ≡ true → pick_fitting m K p q r s ≡ Apexes r s
+  pick_yes : (r s : ℕ) → fits m K p q r s ≡ true → pick_fitting m K p q r s ≡ found r s
   unfolding pick_fitting
   pick_yes r s e = cond_yes _ _ e
 
   -- nothing with a mark that is no candidate on the left
-  pub left_miss : (r : ℕ) → IsMark m r → candidate m K p q p q r ≡ false → pick_right m K p q r ≡ Nothing
+  pub left_miss : (r : ℕ) → IsMark m r → candidate m K p q p q r ≡ false → pick_right m K p q r ≡ None
   unfolding pick_right fits
   left_miss r hr e =
       pick_none (pick_fitting m K p q r) (count m)
@@ -141,7 +141,7 @@ module _ (m : List ℤ) (S : ℕ → Bool) (p q : ℕ) (given : Given m p q) whe
     left_one = candidate_is m K p q p q r hp hq e
 
     -- nor with one that is none on the right
-    pub right_miss : (s : ℕ) → IsMark m s → right_candidate m K p q r s ≡ false → pick_fitting m K p q r s ≡ Nothing
+    pub right_miss : (s : ℕ) → IsMark m s → right_candidate m K p q r s ≡ false → pick_fitting m K p q r s ≡ None
     unfolding fits right_candidate
     right_miss s hs n =
         pick_no r s
@@ -167,10 +167,10 @@ module _ (m : List ℤ) (S : ℕ → Bool) (p q : ℕ) (given : Given m p q) whe
           ∙ ap (λ (t : Bool). cond t (holds_against m p q r s) false) (sym (right_apex_lem s right_one))
           ∙ sym (cond_yes _ _ (left_apex_lem r left_one ∙ both_first (none_left m p q r) _ n))
 
-      pub match_no : goes_with m p q r s ≡ false → pick_fitting m K p q r s ≡ Nothing
+      pub match_no : goes_with m p q r s ≡ false → pick_fitting m K p q r s ≡ None
       match_no h = pick_no r s (sym goes_with_lem ∙ h)
 
-      pub match_yes : goes_with m p q r s ≡ true → pick_fitting m K p q r s ≡ Apexes r s
+      pub match_yes : goes_with m p q r s ≡ true → pick_fitting m K p q r s ≡ found r s
       match_yes h = pick_yes r s (sym goes_with_lem ∙ h)
 
 -- ---- the tie rule and the marks inside pqs, as they are asked

@@ -3,7 +3,7 @@
 use mathlib.Core.Path.{◌≡◌, refl, sym, ◌∙◌}
 use mathlib.Core.Bool.{Bool, true, false, cond}
 use mathlib.Core.List.{List}
-use Prim.Native.Nat.{ℕ, ◌<◌}
+use Prim.Native.Nat.{ℕ}
 use borrow.Author.Tests.{ltb-true, ne_eqb}
 use lib.Dec.{eqb, ltb}
 use lib.IntN.{ℤ}
@@ -14,13 +14,13 @@ use Rattle.sets.specs.declared.Set.{Set}
 use Rattle.sets.specs.Sets.{set_of, has, both}
 use Rattle.sides.specs.Sides.{is_mark, left_mark, left_set}
 use Rattle.masks.specs.Table.{none_left, empty_set}
-use Rattle.sets.proofs.Laws.Words.{word_empty}
-use Rattle.sets.proofs.Laws.Sets.{set_words, set_same, both_sets}
+use Rattle.sets.proofs.Laws.Sets.{set_same, both_sets}
 use Rattle.sides.proofs.Laws.{is_mark_lem, left_mark_lem}
+use Rattle.masks.proofs.Laws.Table.{empty-set}
 use Rattle.striking.proofs.Tests as tests
 use Rattle.striking.proofs.Tests.{not_both, both_first, both_second}
 use Rattle.certificates.specs.Certificate.{joined}
-use Rattle.certificates.specs.Rows.{near_mark, near_set, row_at, Rows, candidate, right_candidate}
+use Rattle.certificates.specs.Rows.{near_mark, near_set, candidate, right_candidate}
 
 -- ---- what a candidate is
 module _ (m : List ℤ) (K : ℕ → ℕ → Bool) where
@@ -84,15 +84,15 @@ right_mark m K p q r i h = candidate_mark m K p q q p i (both_second (none_left 
 module _ (m : List ℤ) (K : ℕ → ℕ → Bool) where
   -- where the rows of p and q and the left set of (a, b) meet
   pub candidate-set :
-      {d : List ℕ} (p q a b : ℕ) {x y z u v : Set} → Rows m K d → p < 128 → q < 128 → x ≡ row_at d p → y ≡ row_at d q →
+      (p q a b : ℕ) {x y z u v : Set} → x ≡ near_set m K p → y ≡ near_set m K q →
       u ≡ set_of (both (has x) (has y)) → z ≡ left_set m a b → v ≡ set_of (both (has u) (has z)) → v ≡ set_of (candidate m K p q a b)
   unfolding near_set left_set candidate
-  candidate-set p q a b {x} {y} {z} {u} {v} rows hp hq ex ey eu ez ev =
+  candidate-set p q a b {u = u} ex ey eu ez ev =
       ev ∙ (λ i. set_of (both (has (two i)) (has (ez i)))) ∙ both_sets (both (near_mark m K p) (near_mark m K q)) (left_mark m a b)
     where
       two : u ≡ set_of (both (near_mark m K p) (near_mark m K q))
       two =
-          eu ∙ (λ i. set_of (both (has ((ex ∙ rows.each p hp) i)) (has ((ey ∙ rows.each q hq) i))))
+          eu ∙ (λ i. set_of (both (has (ex i)) (has (ey i))))
           ∙ both_sets (near_mark m K p) (near_mark m K q)
 
   -- all of those on the right where no mark lies inside pqr, and none where one does
@@ -102,7 +102,5 @@ module _ (m : List ℤ) (K : ℕ → ℕ → Bool) where
   right_all p q r e h = h ∙ set_same (candidate m K p q q p) (right_candidate m K p q r) (λ i l. sym (cond_yes _ _ e))
 
   pub right_none : (p q r : ℕ) → none_left m p q r ≡ false → empty_set ≡ set_of (right_candidate m K p q r)
-  unfolding set_of right_candidate
-  right_none p q r e =
-      set_words (sym (word_empty (right_candidate m K p q r) 0 64 (λ i a b. cond_no _ _ e)))
-      (sym (word_empty (right_candidate m K p q r) 64 64 (λ i a b. cond_no _ _ e)))
+  unfolding right_candidate
+  right_none p q r e = sym (empty-set (right_candidate m K p q r) (λ i. cond_no _ _ e))

@@ -14,10 +14,10 @@ use Rattle.plane.specs.Hull.{inner_edge}
 use Rattle.pairs.proofs.Laws.{pair_below, pair_at_numbered}
 use Rattle.striking.specs.System.{Within, Lawful}
 use Rattle.striking.proofs.Tests.{not_both, both, both_first, both_second}
-use Rattle.certificates.specs.declared.certificate.Pick.{Pick}
-use Rattle.certificates.specs.declared.certificate.Pick.TheVariants.{Nothing, Apexes}
+use Rattle.std.specs.Prelude.{Option, None, Some, is_some}
+use Rattle.certificates.specs.declared.certificate.Apexes.{Apexes}
 use Rattle.certificates.specs.Certificate.{HasCertificate, first_certificate}
-use Rattle.certificates.specs.Plate.{pairs_of, edges_of, is_found, is_pair, empty_pair, inner_pair, certified, cross_pairs, plate}
+use Rattle.certificates.specs.Plate.{pairs_of, edges_of, is_pair, empty_pair, inner_pair, certified, cross_pairs, plate}
 use Rattle.certificates.proofs.Rule7.{certificate_more}
 use Rattle.certificates.proofs.First.{nothing_none, found_first}
 use Rattle.plane.proofs.Laws.Cross.{crosses_other, crosses_itself}
@@ -29,20 +29,20 @@ pair_mark m p h = ltb-true p.b (count m) h
 
 module _ (m : List ℤ) (K : ℕ → ℕ → Bool) (p : Pair) where
   pub certified_has : certified m K p ≡ true → HasCertificate m K p.a p.b
-  unfolding certified is_found
+  unfolding certified
   certified_has h = go (first_certificate m K p.a p.b) refl h
     where
-      go : (x : Pick) → first_certificate m K p.a p.b ≡ x → is_found x ≡ true → HasCertificate m K p.a p.b
-      go Nothing e t = not_both t refl
-      go (Apexes r s) e t = (r, s, (found_first m K p.a p.b e).certificate)
+      go : (x : Option Apexes) → first_certificate m K p.a p.b ≡ x → is_some x ≡ true → HasCertificate m K p.a p.b
+      go None e t = not_both t refl
+      go (Some x) e t = (x.r, x.s, (found_first m K p.a p.b e).certificate)
 
   pub has_certified : HasCertificate m K p.a p.b → certified m K p ≡ true
-  unfolding certified is_found
+  unfolding certified
   has_certified h = go (first_certificate m K p.a p.b) refl
     where
-      go : (x : Pick) → first_certificate m K p.a p.b ≡ x → is_found x ≡ true
-      go Nothing e = absurd (nothing_none m K p.a p.b e h)
-      go (Apexes r s) e = refl
+      go : (x : Option Apexes) → first_certificate m K p.a p.b ≡ x → is_some x ≡ true
+      go None e = absurd (nothing_none m K p.a p.b e h)
+      go (Some x) e = refl
 
 -- ---- the laws
 edges_more : (m : List ℤ) (S S' : ℕ → Bool) → Within S S' → (a b : ℕ) → edges_of m S a b ≡ true → edges_of m S' a b ≡ true

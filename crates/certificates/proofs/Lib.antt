@@ -9,7 +9,6 @@ pub mod Counting
 pub mod Near
 pub mod Crossing
 pub mod Open
-pub mod Stopped
 pub mod Candidates
 pub mod Apexes
 pub mod Places

@@ -1,10 +1,9 @@
 -- Rows of marks. The edge (a, b) stands in two rows alone, that of a and that of b, so a set that changes at (a, b) changes b in
 -- the one row and a in the other; pair after pair, in pair order, gives the rows of the whole set. Assumes nothing.
 use mathlib.Core.Path.{◌≡◌, refl, sym, ap, ap₂, ◌∙◌, subst}
-use mathlib.Core.Logic.{⊎_elim}
 use mathlib.Core.Bool.{Bool, true, false, cond}
 use mathlib.Core.List.{List}
-use Prim.Native.Nat.{ℕ, ◌+◌, ◌*◌, ◌/◌, ◌%◌, ◌≤◌, ◌<◌}
+use Prim.Native.Nat.{ℕ, ◌+◌, ◌≤◌, ◌<◌}
 use native.Mathlib.Decide.{ℕ_discrete, dec_lt}
 use native.Mathlib.Omega.{arith}
 use borrow.Author.Tests.{eq-eqb, ne_eqb, lt-ltb, le-ltb}
@@ -20,42 +19,28 @@ use Rattle.pairs.proofs.Laws.{pair_unique}
 use Rattle.sets.specs.declared.Set.{Set}
 use Rattle.sets.specs.Sets.{set_of, has, including, without}
 use Rattle.sides.specs.Sides.{is_mark}
-use Rattle.sets.proofs.Laws.Numbers.{split}
-use Rattle.sets.proofs.Laws.Words.{word_empty, without_at, without_off}
-use Rattle.sets.proofs.Laws.Sets.{set_words, has-set, set_same, including_at, including_off}
+use Rattle.masks.specs.Table.{empty_set}
+use Rattle.masks.proofs.Laws.Table.{empty-set}
+use Rattle.sets.proofs.Laws.Words.{without_at, without_off}
+use Rattle.sets.proofs.Laws.Sets.{has-set, set_same, including_at, including_off}
 use Rattle.sides.proofs.Laws.{is_mark_lem}
 use Rattle.striking.specs.Status.{remaining}
 use Rattle.striking.proofs.Tests.{not_both, both, both_second}
-use Rattle.striking.proofs.Remaining.{remaining_not, remaining_yes, struck_gone, others_stay}
+use Rattle.striking.proofs.Remaining.{remaining_not, struck_gone, others_stay}
 use Rattle.certificates.specs.Certificate.{joined}
 use Rattle.certificates.specs.Plate.{pairs_of, edges_of}
 use Rattle.certificates.specs.Rows.{near_mark, near_set, row_at, put_row, Rows, below, Clean}
 
 -- ---- one row written
-even_odd : (x y : ℕ) → x * 2 ≡ y * 2 + 1 → ⊥
-even_odd x y e = omega arith
-
-module _ (d : List ℕ) (p : ℕ) (s : Set) where
+module _ (d : List Set) (p : ℕ) (s : Set) where
   put_size : length (put_row d p s) ≡ length d
-  put_size = length-set (set d (p * 2) s.low) (p * 2 + 1) s.high ∙ length-set d (p * 2) s.low
+  put_size = length-set d p s
 
-  put_other : (k : ℕ) → (k ≡ p * 2 → ⊥) → (k ≡ p * 2 + 1 → ⊥) → get_or (put_row d p s) k 0 ≡ get_or d k 0
-  put_other k u v = get_or-set_other (set d (p * 2) s.low) (p * 2 + 1) k s.high 0 v ∙ get_or-set_other d (p * 2) k s.low 0 u
-
-  put_here : length d ≡ 256 → p < 128 → row_at (put_row d p s) p ≡ s
-  unfolding row_at
-  put_here z h =
-      set_words
-      (get_or-set_other (set d (p * 2) s.low) (p * 2 + 1) (p * 2) s.high 0 (λ e. omega arith)
-      ∙ get_or-set_same d (p * 2) s.low 0 (omega arith))
-      (get_or-set_same (set d (p * 2) s.low) (p * 2 + 1) s.high 0 (omega (arith, length-set d (p * 2) s.low)))
+  put_here : length d ≡ 128 → p < 128 → row_at (put_row d p s) p ≡ s
+  put_here z h = get_or-set_same d p s empty_set (omega arith)
 
   put_elsewhere : (o : ℕ) → (o ≡ p → ⊥) → row_at (put_row d p s) o ≡ row_at d o
-  unfolding row_at
-  put_elsewhere o n =
-      set_words
-      (put_other (o * 2) (λ e. n (omega arith)) (λ e. even_odd o p e))
-      (put_other (o * 2 + 1) (λ e. even_odd p o (sym e)) (λ e. n (omega arith)))
+  put_elsewhere o n = get_or-set_other d p o s empty_set n
 
 -- ---- the edge (a, b) in the rows
 module _ (m : List ℤ) (K : ℕ → ℕ → Bool) (a b : ℕ) (h : a < b) where
@@ -100,7 +85,7 @@ near_same m K K' p i f g = ap (λ (t : Bool). cond (is_mark m p) (cond (is_mark 
 
 -- two sets with the same pairs have the same rows
 pub rows_same :
-    {m : List ℤ} {K K' : ℕ → ℕ → Bool} {d : List ℕ} → ((c e : ℕ) → c < e → K c e ≡ K' c e) → Rows m K d → Rows m K' d
+    {m : List ℤ} {K K' : ℕ → ℕ → Bool} {d : List Set} → ((c e : ℕ) → c < e → K c e ≡ K' c e) → Rows m K d → Rows m K' d
 unfolding near_set
 rows_same {m} {K} {K'} f r =
     record {
@@ -129,13 +114,13 @@ module _ (m : List ℤ) (K K' : ℕ → ℕ → Bool) (a b : ℕ) (v : Bool) (h 
 
     -- it is put to work on row a, then on row b
     rows_edited :
-        {d d₁ d₂ : List ℕ} {x y s t : Set} → b < 128 → Rows m K d → x ≡ row_at d a → s ≡ set_of (G (has x) b) → d₁ ≡ put_row d a s →
+        {d d₁ d₂ : List Set} {x y s t : Set} → b < 128 → Rows m K d → x ≡ row_at d a → s ≡ set_of (G (has x) b) → d₁ ≡ put_row d a s →
         y ≡ row_at d₁ b → t ≡ set_of (G (has y) a) → d₂ ≡ put_row d₁ b t → Rows m K' d₂
     unfolding near_set
     rows_edited {d} {d₁} {d₂} {x} {y} {s} {t} small r ex es e₁ ey et e₂ =
         record { size = ap length e₂ ∙ put_size d₁ b t ∙ size₁; each = λ p l. row p l (ℕ_discrete p a) (ℕ_discrete p b) }
       where
-        size₁ : length d₁ ≡ 256
+        size₁ : length d₁ ≡ 128
         size₁ = ap length e₁ ∙ put_size d a s ∙ r.size
 
         row_a : s ≡ near_set m K' a
@@ -146,17 +131,17 @@ module _ (m : List ℤ) (K K' : ℕ → ℕ → Bool) (a b : ℕ) (v : Bool) (h 
         row_b : t ≡ near_set m K' b
         row_b =
             row_edited b a y t
-            (ey ∙ ap (λ (k : List ℕ). row_at k b) e₁ ∙ put_elsewhere d a s b (λ e. omega arith) ∙ r.each b small) et
+            (ey ∙ ap (λ (k : List Set). row_at k b) e₁ ∙ put_elsewhere d a s b (λ e. omega arith) ∙ r.each b small) et
             (near_down m K' a b h hb ∙ at)
             (λ i n. near_off b i (λ e. absurd (let z : ⊥ = omega arith in z)) (λ e. n))
 
         row : (p : ℕ) → p < 128 → Dec (p ≡ a) → Dec (p ≡ b) → row_at d₂ p ≡ near_set m K' p
         row p l (yes e) n =
-            ap₂ row_at e₂ e ∙ put_elsewhere d₁ b t a (λ f. omega arith) ∙ ap (λ (k : List ℕ). row_at k a) e₁ ∙
+            ap₂ row_at e₂ e ∙ put_elsewhere d₁ b t a (λ f. omega arith) ∙ ap (λ (k : List Set). row_at k a) e₁ ∙
             put_here d a s r.size (omega arith) ∙ row_a ∙ ap (near_set m K') (sym e)
         row p l (no n) (yes e) = ap₂ row_at e₂ e ∙ put_here d₁ b t size₁ small ∙ row_b ∙ ap (near_set m K') (sym e)
         row p l (no n) (no n') =
-            ap (λ (k : List ℕ). row_at k p) e₂ ∙ put_elsewhere d₁ b t p n' ∙ ap (λ (k : List ℕ). row_at k p) e₁ ∙
+            ap (λ (k : List Set). row_at k p) e₂ ∙ put_elsewhere d₁ b t p n' ∙ ap (λ (k : List Set). row_at k p) e₁ ∙
             put_elsewhere d a s p n ∙ r.each p l ∙
             set_same (near_mark m K p) (near_mark m K' p) (λ i _. near_off p i (λ e. absurd (n e)) (λ e. absurd (n' e)))
 
@@ -180,7 +165,7 @@ module _ (m : List ℤ) (S : ℕ → Bool) (a b : ℕ) where
 
 -- ---- the byte of (a, b) becomes 0
 pub rows_parted :
-    {m : List ℤ} {d d₁ d₂ : List ℕ} {x y s t : Set} (st : List ℕ) (a b : ℕ) → Plate m → a < b → IsMark m b →
+    {m : List ℤ} {d d₁ d₂ : List Set} {x y s t : Set} (st : List ℕ) (a b : ℕ) → Plate m → a < b → IsMark m b →
     Rows m (edges_of m (remaining st)) d → x ≡ row_at d a → s ≡ set_of (without (has x) b) → d₁ ≡ put_row d a s →
     y ≡ row_at d₁ b → t ≡ set_of (without (has y) a) → d₂ ≡ put_row d₁ b t →
     Rows m (edges_of m (remaining (set st (pair_number a b) 0))) d₂
@@ -220,35 +205,41 @@ module _ (st : List ℕ) (i : ℕ) where
   abbrev after : ℕ → Bool
   after = below (i + 1) (remaining st)
 
-module _ {m : List ℤ} {d : List ℕ} (st : List ℕ) (a b i : ℕ) (h : a < b) (hb : IsMark m b) (e : i ≡ pair_number a b)
-    (r : Rows m (edges_of m (below i (remaining st))) d) where
-  other_pair : (c f : ℕ) → c < f → (c ≡ a → f ≡ b → ⊥) → edges_of m (before st i) c f ≡ edges_of m (after st i) c f
+module _ {m : List ℤ} {d : List Set} (st : List ℕ) (a b : ℕ) (h : a < b) (hb : IsMark m b)
+    (r : Rows m (edges_of m (below (pair_number a b) (remaining st))) d) where
+  abbrev here : ℕ
+  here = pair_number a b
+
+  other_pair : (c f : ℕ) → c < f → (c ≡ a → f ≡ b → ⊥) → edges_of m (before st here) c f ≡ edges_of m (after st here) c f
   other_pair c f l n =
-      edges_same m (before st i) (after st i) c f
-      (below_next (remaining st) i (pair_number c f) (λ q. other_number a b c f h l n (q ∙ e)))
+      edges_same m (before st here) (after st here) c f
+      (below_next (remaining st) here (pair_number c f) (λ q. other_number a b c f h l n q))
 
-  after_at : after st i (pair_number a b) ≡ remaining st i
-  after_at = ap (after st i) (sym e) ∙ below_yes (remaining st) (i + 1) i (omega arith)
-
-  pub rows_skipped : get_or st i 0 ≡ 0 → Rows m (edges_of m (after st i)) d
-  rows_skipped z = rows_same (λ c f l. go c f l (ℕ_discrete (pair_number c f) i)) r
-    where
-      go : (c f : ℕ) → c < f → Dec (pair_number c f ≡ i) → edges_of m (before st i) c f ≡ edges_of m (after st i) c f
-      go c f l (yes q) =
-          edges_none m (before st i) c f (ap (before st i) q ∙ below_no (remaining st) i i (omega arith)) ∙
-          sym (edges_none m (after st i) c f (ap (after st i) (q ∙ e) ∙ after_at ∙ remaining_not st i z))
-      go c f l (no n) = edges_same m (before st i) (after st i) c f (below_next (remaining st) i (pair_number c f) n)
+  after_at : after st here here ≡ remaining st here
+  after_at = below_yes (remaining st) (here + 1) here (omega arith)
 
   pub rows_joined :
-      {d₁ d₂ : List ℕ} {x y s t : Set} → Plate m → Clean m st → (get_or st i 0 ≡ 0 → ⊥) → x ≡ row_at d a →
+      {d₁ d₂ : List Set} {x y s t : Set} → Plate m → Clean m st → remaining st here ≡ true → x ≡ row_at d a →
       s ≡ set_of (including (has x) b) → d₁ ≡ put_row d a s → y ≡ row_at d₁ b → t ≡ set_of (including (has y) a) →
-      d₂ ≡ put_row d₁ b t → Rows m (edges_of m (after st i)) d₂
-  rows_joined plate clean n =
+      d₂ ≡ put_row d₁ b t → Rows m (edges_of m (after st here)) d₂
+  rows_joined plate clean y =
       let few = plate.few in
-      let y = remaining_yes st i n in
-      rows_edited m (edges_of m (before st i)) (edges_of m (after st i)) a b true h hb
-      (edges_yes m (after st i) a b (after_at ∙ y) (clean.edges a b h hb (ap (remaining st) (sym e) ∙ y)))
+      rows_edited m (edges_of m (before st here)) (edges_of m (after st here)) a b true h hb
+      (edges_yes m (after st here) a b (after_at ∙ y) (clean.edges a b h hb y))
       other_pair including including_at including_off (omega arith) r
+
+-- a byte that is 0 adds no edge
+pub rows_skipped :
+    {m : List ℤ} {d : List Set} (st : List ℕ) (i : ℕ) → get_or st i 0 ≡ 0 → Rows m (edges_of m (before st i)) d →
+    Rows m (edges_of m (after st i)) d
+rows_skipped {m} st i z r = rows_same (λ c f l. go c f l (ℕ_discrete (pair_number c f) i)) r
+  where
+    go : (c f : ℕ) → c < f → Dec (pair_number c f ≡ i) → edges_of m (before st i) c f ≡ edges_of m (after st i) c f
+    go c f l (yes q) =
+        edges_none m (before st i) c f (ap (before st i) q ∙ below_no (remaining st) i i (omega arith)) ∙
+        sym (edges_none m (after st i) c f
+        (ap (after st i) q ∙ below_yes (remaining st) (i + 1) i (omega arith) ∙ remaining_not st i z))
+    go c f l (no n) = edges_same m (before st i) (after st i) c f (below_next (remaining st) i (pair_number c f) n)
 
 near_none : (m : List ℤ) (K : ℕ → ℕ → Bool) → ((c e : ℕ) → K c e ≡ false) → (p i : ℕ) → near_mark m K p i ≡ false
 unfolding near_mark joined
@@ -265,21 +256,18 @@ near_none m K f p i =
     go true false z w = refl
     go false y z w = refl
 
-pub rows_start : {m : List ℤ} (S : ℕ → Bool) {d : List ℕ} → d ≡ replicate 256 0 → Rows m (edges_of m (below 0 S)) d
-unfolding row_at near_set set_of
-rows_start {m} S e = subst (Rows m (edges_of m (below 0 S))) (sym e) (record { size = length-replicate {A = ℕ} 256 0; each = row })
+pub rows_start : {m : List ℤ} (S : ℕ → Bool) {d : List Set} → d ≡ replicate 128 empty_set → Rows m (edges_of m (below 0 S)) d
+unfolding near_set
+rows_start {m} S e = subst (Rows m (edges_of m (below 0 S))) (sym e) (record { size = length-replicate 128 empty_set; each = row })
   where
     none : (c f : ℕ) → edges_of m (below 0 S) c f ≡ false
     none c f = edges_none m (below 0 S) c f (below_no S 0 (pair_number c f) (omega arith))
 
-    row : (p : ℕ) → p < 128 → row_at (replicate 256 0) p ≡ near_set m (edges_of m (below 0 S)) p
-    row p l =
-        set_words
-        (get_or-replicate 256 (p * 2) 0 0 (omega arith) ∙ sym (word_empty _ 0 64 (λ i _ _. near_none m _ none p i)))
-        (get_or-replicate 256 (p * 2 + 1) 0 0 (omega arith) ∙ sym (word_empty _ 64 64 (λ i _ _. near_none m _ none p i)))
+    row : (p : ℕ) → p < 128 → row_at (replicate 128 empty_set) p ≡ near_set m (edges_of m (below 0 S)) p
+    row p l = get_or-replicate 128 p empty_set empty_set (omega arith) ∙ sym (empty-set _ (λ i. near_none m _ none p i))
 
 pub rows_end :
-    {m : List ℤ} {d : List ℕ} (st : List ℕ) (i : ℕ) → length st ≤ i → Rows m (edges_of m (below i (remaining st))) d →
+    {m : List ℤ} {d : List Set} (st : List ℕ) (i : ℕ) → length st ≤ i → Rows m (edges_of m (below i (remaining st))) d →
     Rows m (edges_of m (remaining st)) d
 rows_end {m} st i l r =
     rows_same (λ c e _. edges_same m (below i (remaining st)) (remaining st) c e (go (pair_number c e) (dec_lt (pair_number c e) i))) r
@@ -289,23 +277,7 @@ rows_end {m} st i l r =
     go j (no n) =
         below_no (remaining st) i j (omega arith) ∙ sym (remaining_not st j (get_or-eq_default st 0 (omega arith)))
 
--- ---- rows leave no choice: a plate and a set have one list of words
-pub rows_unique : {m : List ℤ} {K : ℕ → ℕ → Bool} {d d' : List ℕ} → Rows m K d → Rows m K d' → d ≡ d'
-unfolding row_at
-rows_unique {m} {K} {d} {d'} f g = ext_get_or 0 d d' (f.size ∙ sym g.size) (λ i h. at i (omega (arith, f.size)))
-  where
-    row : (p : ℕ) → p < 128 → row_at d p ≡ row_at d' p
-    row p l = f.each p l ∙ sym (g.each p l)
-
-    at : (i : ℕ) → i < 256 → get_or d i 0 ≡ get_or d' i 0
-    at i h = ⊎_elim (λ l. even (omega arith)) (λ l. odd (omega arith)) (split (i % 2) 0)
-      where
-        even : i % 2 ≡ 0 → get_or d i 0 ≡ get_or d' i 0
-        even z =
-            let e : i / 2 * 2 ≡ i = omega arith in
-            subst (λ (k : ℕ). get_or d k 0 ≡ get_or d' k 0) e (ap (λ (s : Set). s.low) (row (i / 2) (omega arith)))
-
-        odd : i % 2 ≡ 1 → get_or d i 0 ≡ get_or d' i 0
-        odd z =
-            let e : i / 2 * 2 + 1 ≡ i = omega arith in
-            subst (λ (k : ℕ). get_or d k 0 ≡ get_or d' k 0) e (ap (λ (s : Set). s.high) (row (i / 2) (omega arith)))
+-- ---- rows leave no choice: a plate and a set have one list of rows
+pub rows_unique : {m : List ℤ} {K : ℕ → ℕ → Bool} {d d' : List Set} → Rows m K d → Rows m K d' → d ≡ d'
+rows_unique {m} {K} {d} {d'} f g =
+    ext_get_or empty_set d d' (f.size ∙ sym g.size) (λ i h. let l : i < 128 = omega (arith, f.size) in f.each i l ∙ sym (g.each i l))

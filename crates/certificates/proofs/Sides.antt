@@ -11,8 +11,8 @@ use Rattle.plane.specs.Side.{on_line}
 use Rattle.plane.specs.Edge.{empty_edge}
 use Rattle.plane.specs.Triangle.{hollow, empty_triangle}
 use Rattle.striking.proofs.Tests.{not_both, both, both_first, both_second}
-use Rattle.certificates.specs.declared.certificate.Pick.{Pick}
-use Rattle.certificates.specs.declared.certificate.Pick.TheVariants.{Nothing, Apexes}
+use Rattle.std.specs.Prelude.{Option, None, Some}
+use Rattle.certificates.specs.declared.certificate.Apexes.{Apexes}
 use Rattle.certificates.specs.Certificate.{joined, IsCertificate, first_certificate}
 use Rattle.certificates.specs.Plate.{pairs_of, edges_of}
 use Rattle.certificates.proofs.Rule7.{certificate_sides, certificate_more}
@@ -62,9 +62,9 @@ module _ (m : List ℤ) (S : ℕ → Bool) where
   pub first_edges : (p q : ℕ) → first_certificate m (pairs_of S) p q ≡ first_certificate m (edges_of m S) p q
   first_edges p q = go (first_certificate m (pairs_of S) p q) refl
     where
-      go : (x : Pick) → first_certificate m (pairs_of S) p q ≡ x → x ≡ first_certificate m (edges_of m S) p q
-      go Nothing e =
+      go : (x : Option Apexes) → first_certificate m (pairs_of S) p q ≡ x → x ≡ first_certificate m (edges_of m S) p q
+      go None e =
           sym (none_nothing m (edges_of m S) p q (λ h. nothing_none m (pairs_of S) p q e (h.0, h.1, certificate_pairs h.2)))
-      go (Apexes r s) e =
+      go (Some x) e =
           let f = found_first m (pairs_of S) p q e in
           sym (first_found (first_same (λ r' s' c. certificate_edges c) (λ r' s' c. certificate_pairs c) f))

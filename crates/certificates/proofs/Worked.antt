@@ -22,7 +22,7 @@ use Rattle.plane.proofs.Laws.Tells.{cond_no}
 use Rattle.striking.proofs.Tests.{not_both, is_true, both_first, both_second}
 use Rattle.certificates.specs.Certificate.{joined, crossing, HasCertificate, holds_against, apex, left_apex, right_apex, fits}
 use Rattle.certificates.specs.Certificate.{first_pick, pick_fitting, pick_right, first_certificate}
-use Rattle.certificates.specs.Plate.{is_found, certified}
+use Rattle.certificates.specs.Plate.{certified}
 use Rattle.certificates.specs.Rule9.{IsPair, Kept, Triangulation, LocallyMinimal, Supported, Largest}
 use Rattle.certificates.proofs.Rule5.{inner_empty}
 use Rattle.certificates.proofs.Rule7.{certificate_more}
@@ -165,7 +165,7 @@ computed : Computed
 unfolding
     all_to mark area2 is_left is_right is_on opposite weight dot between on_segment clear empty_edge crosses not_left not_right one_sided
     hull_edge inner_edge inside outside hollow empty_triangle joined holds_against apex left_apex right_apex fits first_pick pick_fitting pick_right
-    first_certificate is_found certified every_pair if_then keeps_edges keeps_apart leaves_crossed is_triangulation certifies_inner holds_hull
+    first_certificate certified every_pair if_then keeps_edges keeps_apart leaves_crossed is_triangulation certifies_inner holds_hull
     leaves_uncertified all_but
 computed =
     record {

@@ -9,9 +9,10 @@
 --   right_apex m K p q s       s is one strictly right
 --   fits m K p q r s           rule 7 as a test of the marks r and s
 --   IsFirst m K p q r s        rule 8 as a sentence: r and s are the first certificate
---   first_certificate m K p q  the apexes of the first certificate, or nothing where there is none
+--   found r s                  the apexes r and s
+--   first_certificate m K p q  the apexes of the first certificate, or none where there is none
 --   certificate_of p q r s     rule 8: the record that is kept
-use Rattle.std.specs.Prelude.{◌≡◌, ◌⊎◌, Bool, true, false, cond, List, [], ◌∷◌, ℕ, zero, suc, ◌≤◌, ltb, ℤ, ◌≤ℤ◌}
+use Rattle.std.specs.Prelude.{◌≡◌, ◌⊎◌, Bool, true, false, cond, Option, None, Some, List, [], ◌∷◌, ℕ, zero, suc, ◌≤◌, ltb, ℤ, ◌≤ℤ◌}
 use Rattle.std.specs.Int.Signed.{le_z}
 use Rattle.plane.specs.Marks.{count, mark, IsMark}
 use Rattle.pairs.specs.Pairs.{pair_of}
@@ -20,8 +21,7 @@ use Rattle.plane.specs.Weight.{weight}
 use Rattle.plane.specs.Cross.{crosses}
 use Rattle.plane.specs.Triangle.{empty_triangle}
 use Rattle.certificates.specs.declared.certificate.Certificate.{Certificate}
-use Rattle.certificates.specs.declared.certificate.Pick.{Pick}
-use Rattle.certificates.specs.declared.certificate.Pick.TheVariants.{Nothing, Apexes}
+use Rattle.certificates.specs.declared.certificate.Apexes.{Apexes}
 
 unfoldable pub joined : (ℕ → ℕ → Bool) → ℕ → ℕ → Bool
 joined K p q = cond (ltb p q) (K p q) (K q p)
@@ -72,18 +72,21 @@ pub record IsFirst (m : List ℤ) (K : ℕ → ℕ → Bool) (p q r s : ℕ) : T
   pub smallest_r : (r' s' : ℕ) → IsCertificate m K p q r' s' → r ≤ r'
   pub smallest_s : (s' : ℕ) → IsCertificate m K p q r s' → s ≤ s'
 
+abbrev pub found : ℕ → ℕ → Option Apexes
+found r s = Some (record { r = r; s = s })
+
 -- the first that is picked by f 0, f 1, .. f (n - 1)
-unfoldable pub first_pick : ℕ → (ℕ → Pick) → Pick
-first_pick zero f = Nothing
-first_pick (suc k) f = elim (first_pick k f) [ Nothing ↦ f k | Apexes r s ↦ Apexes r s ]
+unfoldable pub first_pick : ℕ → (ℕ → Option Apexes) → Option Apexes
+first_pick zero f = None
+first_pick (suc k) f = elim (first_pick k f) [ None ↦ f k | Some x ↦ Some x ]
 
-unfoldable pub pick_fitting : List ℤ → (ℕ → ℕ → Bool) → ℕ → ℕ → ℕ → ℕ → Pick
-pick_fitting m K p q r s = cond (fits m K p q r s) (Apexes r s) Nothing
+unfoldable pub pick_fitting : List ℤ → (ℕ → ℕ → Bool) → ℕ → ℕ → ℕ → ℕ → Option Apexes
+pick_fitting m K p q r s = cond (fits m K p q r s) (found r s) None
 
-unfoldable pub pick_right : List ℤ → (ℕ → ℕ → Bool) → ℕ → ℕ → ℕ → Pick
+unfoldable pub pick_right : List ℤ → (ℕ → ℕ → Bool) → ℕ → ℕ → ℕ → Option Apexes
 pick_right m K p q r = first_pick (count m) (pick_fitting m K p q r)
 
-unfoldable pub first_certificate : List ℤ → (ℕ → ℕ → Bool) → ℕ → ℕ → Pick
+unfoldable pub first_certificate : List ℤ → (ℕ → ℕ → Bool) → ℕ → ℕ → Option Apexes
 first_certificate m K p q = first_pick (count m) (pick_right m K p q)
 
 -- "A certificate is kept as one record: the two apexes and the four pair numbers of its sides in the order pr, qr, ps, qs."

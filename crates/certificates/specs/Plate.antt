@@ -7,15 +7,13 @@
 --   cross_pairs m p q  p and q cross; rule 4 asks it only of empty edges
 --   certified m K p    p has a certificate in K
 --   plate m            the system: pair i is `pair_at i`
-use Rattle.std.specs.Prelude.{Bool, true, false, cond, List, ℕ, ltb, ℤ}
+use Rattle.std.specs.Prelude.{Bool, false, cond, is_some, List, ℕ, ltb, ℤ}
 use Rattle.pairs.specs.declared.Pair.{Pair}
 use Rattle.plane.specs.Marks.{count}
 use Rattle.pairs.specs.Pairs.{pair_count, pair_number, pair_at}
 use Rattle.plane.specs.Edge.{empty_edge}
 use Rattle.plane.specs.Hull.{inner_edge}
 use Rattle.striking.specs.System.{System}
-use Rattle.certificates.specs.declared.certificate.Pick.{Pick}
-use Rattle.certificates.specs.declared.certificate.Pick.TheVariants.{Nothing, Apexes}
 use Rattle.certificates.specs.Certificate.{crossing, first_certificate}
 
 unfoldable pub pairs_of : (ℕ → Bool) → ℕ → ℕ → Bool
@@ -34,12 +32,8 @@ empty_pair m p = cond (is_pair m p) (empty_edge m p.a p.b) false
 unfoldable pub inner_pair : List ℤ → Pair → Bool
 inner_pair m p = cond (is_pair m p) (inner_edge m p.a p.b) false
 
-unfoldable pub is_found : Pick → Bool
-is_found Nothing = false
-is_found (Apexes r s) = true
-
 unfoldable pub certified : List ℤ → (ℕ → ℕ → Bool) → Pair → Bool
-certified m K p = is_found (first_certificate m K p.a p.b)
+certified m K p = is_some (first_certificate m K p.a p.b)
 
 unfoldable pub cross_pairs : List ℤ → Pair → Pair → Bool
 cross_pairs m p q = crossing m p.a p.b q.a q.b

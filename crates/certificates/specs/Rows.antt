@@ -1,9 +1,9 @@
--- The words that the search works on, for the contracts of this crate and of crate rounds. No contract of an entry point mentions them. A set
+-- The sets that the search works on, for the contracts of this crate and of crate rounds. No contract of an entry point mentions them. A set
 -- of edges K is a test of two marks, the smaller number first.
 --   near_mark m K p i            p and i are marks, and their edge belongs to K
 --   near_set m K p               the marks that p has an edge of K to
---   row_at d p, put_row d p s    the row of p in the words d; the words with s for that row
---   Rows m K d                   the words have each mark's row
+--   row_at d p, put_row d p s    the row of p among the rows d; the rows with s for that one
+--   Rows m K d                   the rows are those of each mark
 --   below i S                    the pairs of S whose numbers are below i
 --   Clean m st                   a byte that is not 0 stands for an empty edge
 --   candidate m K p q a b i      i has an edge of K to p and to q, and lies left of a to b
@@ -12,7 +12,7 @@
 --   cross_mark m K p q r s       the edge of r and s belongs to K and crosses pq, where r lies left of p to q
 --   crossed_from m K p q r       some such edge
 --   Apart p q r                  r is neither p nor q, and all three are small
-use Rattle.std.specs.Prelude.{◌≡◌, Bool, true, false, not, cond, List, ℕ, ◌+◌, ◌*◌, ◌≤◌, ◌<◌, eqb, ltb, ℤ, length, get_or, set}
+use Rattle.std.specs.Prelude.{◌≡◌, Bool, true, false, not, cond, List, ℕ, ◌≤◌, ◌<◌, eqb, ltb, ℤ, length, get_or, set}
 use Rattle.std.specs.Int.Signed.{le_z}
 use Rattle.plane.specs.Numbers.{all_to}
 use Rattle.plane.specs.Marks.{mark, IsMark}
@@ -22,7 +22,7 @@ use Rattle.plane.specs.Edge.{empty_edge}
 use Rattle.sets.specs.declared.Set.{Set}
 use Rattle.sets.specs.Sets.{set_of, lacks, both}
 use Rattle.sides.specs.Sides.{is_mark, left_mark}
-use Rattle.masks.specs.Table.{none_left, split_mark}
+use Rattle.masks.specs.Table.{empty_set, none_left, split_mark}
 use Rattle.striking.specs.Status.{remaining}
 use Rattle.certificates.specs.Certificate.{joined}
 
@@ -32,14 +32,14 @@ near_mark m K p i = cond (is_mark m p) (cond (is_mark m i) (cond (eqb p i) false
 unfoldable pub near_set : List ℤ → (ℕ → ℕ → Bool) → ℕ → Set
 near_set m K p = set_of (near_mark m K p)
 
-unfoldable pub row_at : List ℕ → ℕ → Set
-row_at d p = record { low = get_or d (p * 2) 0; high = get_or d (p * 2 + 1) 0 }
+abbrev pub row_at : List Set → ℕ → Set
+row_at d p = get_or d p empty_set
 
-abbrev pub put_row : List ℕ → ℕ → Set → List ℕ
-put_row d p s = set (set d (p * 2) s.low) (p * 2 + 1) s.high
+abbrev pub put_row : List Set → ℕ → Set → List Set
+put_row d p s = set d p s
 
-pub record Rows (m : List ℤ) (K : ℕ → ℕ → Bool) (d : List ℕ) : Type 0 where
-  pub size : length d ≡ 256
+pub record Rows (m : List ℤ) (K : ℕ → ℕ → Bool) (d : List Set) : Type 0 where
+  pub size : length d ≡ 128
   pub each : (p : ℕ) → p < 128 → row_at d p ≡ near_set m K p
 
 unfoldable pub below : ℕ → (ℕ → Bool) → ℕ → Bool

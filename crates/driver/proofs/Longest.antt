@@ -1,6 +1,7 @@
 -- The longest budget that n marks can need is never too short: n marks have at most n(n-1)/2 inner edges. Assumes nothing.
 use mathlib.Core.Path.{◌≡◌, sym, subst}
 use mathlib.Core.List.{List}
+use Rattle.std.specs.Prelude.{Ok}
 use Prim.Native.Nat.{ℕ, ◌+◌, ◌*◌, ◌/◌, ◌≤◌}
 use native.Mathlib.Nat.{mul-le-mul_left, mul-le-mul_right, le_trans}
 use native.Mathlib.Omega.{arith}
@@ -32,5 +33,5 @@ longest_ample m = ample_grows (inner_edges m) (pair_count (count m)) (few_inner 
 
 -- "With m inner edges a search ends within m(m+1)/2 examinations": under this budget no plate of so many marks pauses.
 pub longest_never_pauses :
-    (m : List ℤ) (st : List ℕ) (budget : ℕ) → longest_budget (count m) ≤ budget → (e : ℕ) → outcome_of m st budget ≡ Paused e → ⊥
+    (m : List ℤ) (st : List ℕ) (budget : ℕ) → longest_budget (count m) ≤ budget → (e : ℕ) → outcome_of m st budget ≡ Ok (Paused e) → ⊥
 longest_never_pauses m st budget l = never_pauses m st budget (le_trans (longest_ample m) l)

@@ -13,12 +13,13 @@ use Rattle.pairs.specs.Pairs.{pair_count, pair_number}
 use Rattle.pairs.proofs.Laws.{pair_count_small}
 use Rattle.plane.proofs.Laws.Tells.{cond_yes, cond_no}
 use Rattle.skeleton.specs.declared.request.Reply.{Reply}
-use Rattle.skeleton.specs.declared.request.Reply.TheVariants.{Hull, NotEmpty, Certified, Uncertified}
+use Rattle.std.specs.Prelude.{Result, Ok, Err}
 use Rattle.refusals.specs.declared.Refusal.{Refusal}
+use Rattle.refusals.specs.Check.{shown_by}
+use Rattle.certificates.specs.declared.certificate.Certificate.{Certificate}
 use Rattle.skeleton.specs.declared.search.Outcome.{Outcome}
 use Rattle.skeleton.specs.declared.search.Outcome.TheVariants.{Done, Paused}
-use Rattle.skeleton.specs.declared.request.Answer.{Answer}
-use Rattle.skeleton.specs.Answers.{answer_of, outcome_of, status_after, shown_reply, shown_outcome}
+use Rattle.skeleton.specs.Answers.{answer_of, outcome_of, status_after, certificate_shown}
 use Rattle.driver.specs.Driver.{Told, told, returned, written, outcome_numbers, outcome_reply, search_reply, search_status}
 use Rattle.driver.specs.Driver.{reply_first, certificate_numbers, answer_reply, certificate_reply}
 use Rattle.driver.specs.Driver.{is_pair, pair_reply, longest_budget, longest_budget_reply}
@@ -52,24 +53,17 @@ reaches_as result {x} {y} {number} {now} e h = subst (λ (z : Told). Reaches res
 -- ---- the search
 module _ (m : List ℤ) (st : List ℕ) (budget : ℕ) where
   pub outcome_of_lem :
-      {o : Outcome} {number : ℕ} {numbers : List ℕ} → o ≡ outcome_of m st budget → number ≡ (shown_outcome o).number → numbers ≡ outcome_numbers o →
+      {o : Result Outcome Refusal} {number : ℕ} {numbers : List ℕ} → o ≡ outcome_of m st budget → number ≡ (shown_by o).number → numbers ≡ outcome_numbers o →
       told number numbers ≡ search_reply m st budget
   unfolding search_reply
   outcome_of_lem e f g = ap₂ told f g ∙ ap outcome_reply e
 
--- what is no refusal shows no number
-pub outcome_unrefused : (o : Outcome) → ((x : Refusal) → ¬ (o ≡ Outcome.Refused x)) → 0 ≡ (shown_outcome o).number
-unfolding shown_outcome
-outcome_unrefused (Outcome.Refused x) k = absurd (k x refl)
-outcome_unrefused (Done e) k = refl
-outcome_unrefused (Paused e) k = refl
-
 -- it tells two numbers
-outcome-length : (o : Outcome) → length (outcome_numbers o) ≡ 2
+outcome-length : (o : Result Outcome Refusal) → length (outcome_numbers o) ≡ 2
 unfolding outcome_numbers
-outcome-length (Outcome.Refused x) = refl
-outcome-length (Done e) = refl
-outcome-length (Paused e) = refl
+outcome-length (Ok (Done e)) = refl
+outcome-length (Ok (Paused e)) = refl
+outcome-length (Err x) = refl
 
 module _ (result : List ℕ) (m : List ℤ) (st : List ℕ) (budget : ℕ) where
   pub search_short : length result < 2 → length result < length (search_reply m st budget).numbers
@@ -85,21 +79,12 @@ module _ (result : List ℕ) (m : List ℤ) (st : List ℕ) (budget : ℕ) where
   status_whole l = cond_no _ _ (le-ltb _ _ l)
 
 -- ---- the certificate request
-pub reply_unrefused : (r : Reply) → ((x : Refusal) → ¬ (r ≡ Reply.Refused x)) → 0 ≡ (shown_reply r).number
-unfolding shown_reply
-reply_unrefused (Reply.Refused x) k = absurd (k x refl)
-reply_unrefused Hull k = refl
-reply_unrefused NotEmpty k = refl
-reply_unrefused Certified k = refl
-reply_unrefused Uncertified k = refl
-
 module _ (m : List ℤ) (st : List ℕ) (a b : ℕ) where
   pub reply_of :
-      {x : Answer} {number first : ℕ} {numbers : List ℕ} → x ≡ answer_of m st a b → number ≡ (shown_reply x.reply).number →
-      first ≡ reply_first x.reply → numbers ≡ certificate_numbers first x.certificate → told number numbers ≡ certificate_reply m st a b
+      {x : Result Reply Refusal} {number first : ℕ} {c : Certificate} {numbers : List ℕ} → x ≡ answer_of m st a b → number ≡ (shown_by x).number →
+      first ≡ reply_first x → c ≡ certificate_shown x → numbers ≡ certificate_numbers first c → told number numbers ≡ certificate_reply m st a b
   unfolding certificate_reply
-  reply_of {x} e f g h =
-      ap₂ told f (h ∙ ap (λ (k : ℕ). certificate_numbers k x.certificate) g) ∙ ap answer_reply e
+  reply_of {x} e f g k h = ap₂ told f (h ∙ ap₂ certificate_numbers g k) ∙ ap answer_reply e
 
 -- ---- the number of a pair
 module _ (a b : ℕ) where

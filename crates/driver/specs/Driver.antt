@@ -6,15 +6,16 @@
 --   search_reply, certificate_reply, pair_reply, longest_budget_reply  the reply of each function
 --   search_status              the status buffer when the search returns
 --   longest_budget n           the longest budget that a plate of n marks can need
-use Rattle.std.specs.Prelude.{Bool, false, cond, List, [], ◌∷◌, ◌++◌, ℕ, ◌+◌, ◌*◌, ◌/◌, ltb, ℤ, length, drop}
+use Rattle.std.specs.Prelude.{Bool, false, cond, Result, Ok, Err, List, [], ◌∷◌, ◌++◌, ℕ, ◌+◌, ◌*◌, ◌/◌, ltb, ℤ, length, drop}
 use Rattle.pairs.specs.Pairs.{pair_count, pair_number}
+use Rattle.refusals.specs.declared.Refusal.{Refusal}
+use Rattle.refusals.specs.Check.{shown}
 use Rattle.certificates.specs.declared.certificate.Certificate.{Certificate}
 use Rattle.skeleton.specs.declared.request.Reply.{Reply}
 use Rattle.skeleton.specs.declared.request.Reply.TheVariants.{Hull, NotEmpty, Certified, Uncertified}
-use Rattle.skeleton.specs.declared.request.Answer.{Answer}
 use Rattle.skeleton.specs.declared.search.Outcome.{Outcome}
 use Rattle.skeleton.specs.declared.search.Outcome.TheVariants.{Done, Paused}
-use Rattle.skeleton.specs.Answers.{answer_of, outcome_of, status_after, shown_reply, shown_outcome}
+use Rattle.skeleton.specs.Answers.{answer_of, outcome_of, status_after, shown_reply, shown_outcome, certificate_shown}
 
 abbrev pub version : ℕ
 version = 1
@@ -37,12 +38,12 @@ written result x =
     cond (ltb (length result) (length x.numbers)) result (x.numbers ++ drop (length x.numbers) result)
 
 -- ---- the search: 0 done or 1 paused, and the examinations; of a refusal its detail, and 0
-unfoldable pub outcome_numbers : Outcome → List ℕ
-outcome_numbers (Outcome.Refused x) = x.detail ∷ 0 ∷ []
-outcome_numbers (Done e) = 0 ∷ e ∷ []
-outcome_numbers (Paused e) = 1 ∷ e ∷ []
+unfoldable pub outcome_numbers : Result Outcome Refusal → List ℕ
+outcome_numbers (Ok (Done e)) = 0 ∷ e ∷ []
+outcome_numbers (Ok (Paused e)) = 1 ∷ e ∷ []
+outcome_numbers (Err x) = (shown x).detail ∷ 0 ∷ []
 
-abbrev pub outcome_reply : Outcome → Told
+abbrev pub outcome_reply : Result Outcome Refusal → Told
 outcome_reply o = told (shown_outcome o).number (outcome_numbers o)
 
 unfoldable pub search_reply : List ℤ → List ℕ → ℕ → Told
@@ -53,19 +54,19 @@ unfoldable pub search_status : List ℕ → List ℤ → List ℕ → ℕ → Li
 search_status result m st budget = cond (ltb (length result) 2) st (status_after m st budget)
 
 -- ---- the certificate request: first 0 hull, 1 not empty, 2 certified or 3 none, and of a refusal its detail; then the certificate's apexes
--- r and s and the numbers of its sides pr, qr, ps, qs. These six are 0 unless the pair is certified (`without` of skeleton's Answers.antt)
-unfoldable pub reply_first : Reply → ℕ
-reply_first (Reply.Refused x) = x.detail
-reply_first Hull = 0
-reply_first NotEmpty = 1
-reply_first Certified = 2
-reply_first Uncertified = 3
+-- r and s and the numbers of its sides pr, qr, ps, qs. These six are 0 unless the pair is certified (`certificate_shown` of skeleton's Answers.antt)
+unfoldable pub reply_first : Result Reply Refusal → ℕ
+reply_first (Ok Hull) = 0
+reply_first (Ok NotEmpty) = 1
+reply_first (Ok (Certified c)) = 2
+reply_first (Ok Uncertified) = 3
+reply_first (Err x) = (shown x).detail
 
 unfoldable pub certificate_numbers : ℕ → Certificate → List ℕ
 certificate_numbers first c = first ∷ c.r ∷ c.s ∷ c.sides
 
-abbrev pub answer_reply : Answer → Told
-answer_reply x = told (shown_reply x.reply).number (certificate_numbers (reply_first x.reply) x.certificate)
+abbrev pub answer_reply : Result Reply Refusal → Told
+answer_reply x = told (shown_reply x).number (certificate_numbers (reply_first x) (certificate_shown x))
 
 unfoldable pub certificate_reply : List ℤ → List ℕ → ℕ → ℕ → Told
 certificate_reply m st a b = answer_reply (answer_of m st a b)

@@ -6,7 +6,8 @@
 #![tactic(auto)]
 
 ghost use Rattle.std.specs.Prelude.{◌≡◌, ◌++◌, ◌≤◌, length, drop};
-ghost use Rattle.skeleton.specs.Answers.{shown_reply, shown_outcome};
+ghost use Rattle.refusals.specs.Check.{shown_by};
+ghost use Rattle.skeleton.specs.Answers.{certificate_shown};
 ghost use Rattle.driver.specs.Driver.{version, told, returned, written};
 ghost use Rattle.driver.specs.Driver.{outcome_numbers, search_reply, search_status};
 ghost use Rattle.driver.specs.Driver.{reply_first, certificate_numbers, certificate_reply};
@@ -14,10 +15,14 @@ ghost use Rattle.driver.specs.Driver.{is_pair, pair_reply, longest_budget_reply}
 
 use certificates::certificate::Certificate;
 use pairs::{pair_count, pair_number};
+use refusals::Refusal;
 use skeleton::request::{Reply, request};
 use skeleton::search::{Outcome, search};
 
 const VERSION: u32 = 1;
+
+// ---- numbers in place of enums, and zeros in place of an `Option`, here and below: the C interface. A `usize` becomes a `u64` by `as`: std has no
+// `From` for the two.
 
 // Status numbers beside those of 01's table: the result buffer is too short; two numbers that are no pair of marks.
 const SHORT: u32 = 100;
@@ -45,14 +50,11 @@ fn put(res: &mut [u64], numbers: &[u64])
     requires { length numbers.now ≤ length res.old }
     ensures put { res.new ≡ numbers.now ++ drop (length numbers.now) res.old }
 {
-    let mut i = 0;
-    while i < numbers.len() {
-        res[i] = numbers[i];
-        i += 1;
-    }
+    res[..numbers.len()].copy_from_slice(numbers);
 }
 
 // Tells a reply: the status number, and the numbers for the result buffer.
+#[tactic(auto, unfolding(crate::specs::Driver::returned, crate::specs::Driver::written))]
 fn tell(res: &mut [u64], number: u32, numbers: &[u64]) -> u32
     ensures returned { result ≡ returned res.old (told number numbers.now) }
     ensures written { res.new ≡ written res.old (told number numbers.now) }
@@ -64,26 +66,28 @@ fn tell(res: &mut [u64], number: u32, numbers: &[u64]) -> u32
     number
 }
 
-// ---- the search
-
-// The status number of a search.
-fn outcome_number(o: Outcome) -> u32
-    ensures number { result ≡ (shown_outcome o).number }
+// The status number of an answer: that of its refusal, or 0.
+#[tactic(auto, unfolding(refusals::specs::Check::shown_by))]
+fn status_number<T>(answer: &Result<T, Refusal>) -> u32
+    ensures number { result ≡ (shown_by answer.now).number }
 {
-    if let Outcome::Refused(f) = o {
-        return f.number as u32;
+    match answer {
+        Ok(_) => 0,
+        Err(f) => u32::from(f.number()),
     }
-    0
 }
 
-// What a search tells beside it.
-fn outcome_numbers(o: Outcome) -> [u64; 2]
-    ensures numbers { result ≡ outcome_numbers o }
+// ---- the search
+
+// What a search tells beside its status number.
+#[tactic(auto, unfolding(crate::specs::Driver::outcome_numbers))]
+fn outcome_numbers(answer: Result<Outcome, Refusal>) -> [u64; 2]
+    ensures numbers { result ≡ outcome_numbers answer }
 {
-    match o {
-        Outcome::Refused(f) => [f.detail as u64, 0],
-        Outcome::Done(e) => [DONE, e as u64],
-        Outcome::Paused(e) => [PAUSED, e as u64],
+    match answer {
+        Ok(Outcome::Done(e)) => [DONE, u64::from(e)],
+        Ok(Outcome::Paused(e)) => [PAUSED, u64::from(e)],
+        Err(f) => [f.detail() as u64, 0],
     }
 }
 
@@ -102,49 +106,49 @@ pub extern "C" fn skeleton_search(
     if res.len() < 2 {
         return SHORT;
     }
-    let o = search(marks, status, budget);
-    let numbers = outcome_numbers(o);
-    tell(res, outcome_number(o), &numbers)
+    let answer = search(marks, status, budget);
+    tell(res, status_number(&answer), &outcome_numbers(answer))
 }
 
 // ---- the certificate request
 
-// The status number of a request.
-fn reply_number(reply: Reply) -> u32
-    ensures number { result ≡ (shown_reply reply).number }
-{
-    if let Reply::Refused(f) = reply {
-        return f.number as u32;
-    }
-    0
-}
-
 // What the pair is, or a refusal's detail.
-fn reply_first(reply: Reply) -> u64
-    ensures first { result ≡ reply_first reply }
+#[tactic(auto, unfolding(crate::specs::Driver::reply_first))]
+fn reply_first(answer: Result<Reply, Refusal>) -> u64
+    ensures first { result ≡ reply_first answer }
 {
-    match reply {
-        Reply::Refused(f) => f.detail as u64,
-        Reply::Hull => HULL,
-        Reply::NotEmpty => NOT_EMPTY,
-        Reply::Certified => CERTIFIED,
-        Reply::Uncertified => NONE,
+    match answer {
+        Ok(Reply::Hull) => HULL,
+        Ok(Reply::NotEmpty) => NOT_EMPTY,
+        Ok(Reply::Certified(_)) => CERTIFIED,
+        Ok(Reply::Uncertified) => NONE,
+        Err(f) => f.detail() as u64,
     }
 }
 
-// That, and the numbers of the certificate.
+// The certificate of a pair that has one, or zeros.
+#[tactic(auto, unfolding(skeleton::specs::Answers::certificate_shown, skeleton::specs::Answers::reply_certificate))]
+fn certificate_shown(answer: Result<Reply, Refusal>) -> Certificate
+    ensures certificate { result ≡ certificate_shown answer }
+{
+    match answer {
+        Ok(Reply::Certified(c)) => c,
+        Ok(Reply::Hull | Reply::NotEmpty | Reply::Uncertified) | Err(_) => Certificate {
+            r: 0,
+            s: 0,
+            sides: [0; 4],
+        },
+    }
+}
+
+// The first number of a reply, and those of the certificate.
+#[tactic(auto, unfolding(crate::specs::Driver::certificate_numbers))]
 fn certificate_numbers(first: u64, c: Certificate) -> [u64; 7]
     ensures numbers { result ≡ certificate_numbers first c }
 {
-    let sides = c.sides;
+    let [pr, qr, ps, qs] = c.sides;
     [
-        first,
-        c.r as u64,
-        c.s as u64,
-        sides[0] as u64,
-        sides[1] as u64,
-        sides[2] as u64,
-        sides[3] as u64,
+        first, c.r as u64, c.s as u64, pr as u64, qr as u64, ps as u64, qs as u64,
     ]
 }
 
@@ -160,10 +164,9 @@ pub extern "C" fn skeleton_certificate(
     ensures returned { result ≡ returned res.old (certificate_reply marks.now status.now a b) }
     ensures written { res.new ≡ written res.old (certificate_reply marks.now status.now a b) }
 {
-    let x = request(marks, status, a, b);
-    let reply = x.reply;
-    let numbers = certificate_numbers(reply_first(reply), x.certificate);
-    tell(res, reply_number(reply), &numbers)
+    let answer = request(marks, status, a, b);
+    let numbers = certificate_numbers(reply_first(answer), certificate_shown(answer));
+    tell(res, status_number(&answer), &numbers)
 }
 
 // ---- numbers alone
@@ -172,10 +175,7 @@ pub extern "C" fn skeleton_certificate(
 fn is_pair(a: usize, b: usize) -> bool
     ensures pair { result ≡ is_pair a b }
 {
-    if a < b {
-        return b < 128;
-    }
-    false
+    a < b && b < 128
 }
 
 // The number of the pair (a, b).
@@ -185,11 +185,9 @@ pub extern "C" fn skeleton_pair(a: usize, b: usize, res: &mut [u64]) -> u32
     ensures written { res.new ≡ written res.old (pair_reply a b) }
 {
     if is_pair(a, b) {
-        let numbers = [pair_number(a, b) as u64];
-        return tell(res, 0, &numbers);
+        return tell(res, 0, &[pair_number(a, b) as u64]);
     }
-    let numbers = [0];
-    tell(res, NO_PAIR, &numbers)
+    tell(res, NO_PAIR, &[0])
 }
 
 // The longest budget that a plate of n marks can need.
@@ -199,12 +197,11 @@ pub extern "C" fn skeleton_longest_budget(n: usize, res: &mut [u64]) -> u32
     ensures written { res.new ≡ written res.old (longest_budget_reply n) }
 {
     if 128 < n {
-        let numbers = [n as u64];
-        return tell(res, 2, &numbers);
+        let refusal = Refusal::TooManyMarks(n);
+        return tell(res, u32::from(refusal.number()), &[refusal.detail() as u64]);
     }
     let k = pair_count(n) as u64;
-    let numbers = [k * (k + 1) / 2];
-    tell(res, 0, &numbers)
+    tell(res, 0, &[k * (k + 1) / 2])
 }
 
 // The version of the interface that skeleton.h declares.

@@ -3,48 +3,37 @@
 // standard error says why.
 #![tactic(auto)]
 
-ghost use Rattle.std.specs.Prelude.{◌≤◌, length};
-ghost use Rattle.lister.specs.Input.{bytes_of};
+ghost use Rattle.std.specs.Io.{ReadsAtMost};
 
 use listing::list::answer;
 use std::io;
 use std::io::{Read, Write};
 
-#[derive(Clone, Copy)]
-enum Input {
-    // So many bytes stand at the buffer's start: the whole input, or as much as the buffer takes.
-    Read(usize),
-    // A read failed, and what was read before it may be a part of the input.
-    Failed,
-}
-
-// Reads until the input ends, the buffer is full or a read fails.
-fn read_input(input: &mut impl Read, text: &mut [u8]) -> Input
-    ensures fits { bytes_of result ≤ length text.new }
+// Reads until the input ends, the buffer is full or a read fails, and says how many bytes stand at the buffer's start: the whole input, or as
+// much as the buffer takes. Where a read failed, what was read before it may be a part of the input.
+fn read_input(input: &mut impl Read, text: &mut [u8]) -> io::Result<usize>
+    ensures fits { ReadsAtMost result text.new }
 {
     let mut n = 0;
+    // A turn counts as many bytes as its read gave: no `for` goes by such steps. `read_exact` of std makes an early end an error and does not say how
+    // much it read, and `read_to_end` needs a heap.
     while n < text.len() {
-        let Ok(k) = input.read(&mut text[n..]) else {
-            return Input::Failed;
-        };
+        let k = input.read(&mut text[n..])?;
         if k == 0 {
-            return Input::Read(n);
+            break;
         }
         n += k;
     }
-    Input::Read(n)
+    Ok(n)
 }
 
 // Reads what is left of the input, so that whoever writes it is not cut off. After 65,536 reads it stops.
 fn drain(input: &mut impl Read) {
     let mut rest = [0u8; 65536];
     for _ in 0..65536 {
-        let Ok(k) = input.read(&mut rest) else {
+        let Ok(1..) = input.read(&mut rest) else {
             return;
         };
-        if k == 0 {
-            return;
-        }
     }
 }
 
@@ -59,15 +48,13 @@ fn list(output: &mut impl Write, text: &[u8]) -> io::Result<()> {
 fn main(rt: HostRuntime) -> io::Result<()> {
     let mut input = rt.stdin();
     let mut text = [0u8; 4097];
-    match read_input(&mut input, &mut text) {
-        Input::Failed => rt
+    let Ok(n) = read_input(&mut input, &mut text) else {
+        return rt
             .stderr()
-            .write_all(b"lister: standard input cannot be read\n"),
-        Input::Read(n) => {
-            if n == 4097 {
-                drain(&mut input);
-            }
-            list(&mut rt.stdout(), &text[..n])
-        }
+            .write_all(b"lister: standard input cannot be read\n");
+    };
+    if n == text.len() {
+        drain(&mut input);
     }
+    list(&mut rt.stdout(), &text[..n])
 }

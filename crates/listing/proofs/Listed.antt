@@ -11,19 +11,20 @@ use lib.IntN.{ℤ}
 use lib.ListN.{length, take, drop, replicate, length-append, length-replicate, get_or-replicate}
 use lib.Seq.{ext_get_or, get_or-take, length-take-le}
 use Rattle.refusals.specs.declared.Refusal.{Refusal}
-use Rattle.refusals.specs.declared.Verdict.TheVariants.{Accepted}
+use Rattle.std.specs.Prelude.{Result, Ok, Err}
+use Rattle.refusals.specs.Check.{shown}
 use Rattle.plane.specs.Marks.{count}
 use Rattle.pairs.specs.Pairs.{pair_count}
 use Rattle.pairs.proofs.Laws.{pair_count_small}
 use Rattle.skeleton.specs.declared.search.Outcome.{Outcome}
-use Rattle.skeleton.specs.declared.search.Outcome.TheVariants.{Refused, Done, Paused}
+use Rattle.skeleton.specs.declared.search.Outcome.TheVariants.{Done, Paused}
 use Rattle.skeleton.specs.Answers.{search_refusal, outcome_of, status_after}
 use Rattle.skeleton.proofs.Table.{accepted_list, accepted_long}
 use Rattle.skeleton.proofs.Ended.{done_search, paused_search}
 use Rattle.skeleton.proofs.Theorems.{status-length}
+use Rattle.std.specs.Prelude.{Ok}
 use Rattle.reading.specs.declared.read.Reading.{Reading}
-use Rattle.reading.specs.declared.read.Reading.TheVariants as reading
-use Rattle.reading.specs.Read.{numbers_of, reading_of, numbers_after}
+use Rattle.reading.specs.Read.{Answer, refused, numbers_of, reading_of, numbers_after}
 use Rattle.writing.specs.Listing.{refused_text, listing_text}
 use Rattle.reading.proofs.Answer.{numbers_first}
 use Rattle.listing.specs.Program.{status_room, text_by, marks_text, list_text, list_status, text_for, answer_text, status_for, answer_status}
@@ -33,33 +34,33 @@ module _ (m : List ℤ) (st : List ℕ) (budget : ℕ) where
     pub few : count m ≤ 128
     pub long : length (status_after m st budget) ≡ pair_count (count m)
 
-  listable : search_refusal m st ≡ Accepted → Listable
+  listable : search_refusal m st ≡ Ok tt → Listable
   listable e = record { few = (accepted_list m st e).few; long = status-length m st budget ∙ accepted_long m st e }
 
-  pub done_listable : (e : ℕ) → outcome_of m st budget ≡ Done e → Listable
+  pub done_listable : (e : ℕ) → outcome_of m st budget ≡ Ok (Done e) → Listable
   done_listable e q = listable (done_search m st budget e q).0
 
-  pub paused_listable : (e : ℕ) → outcome_of m st budget ≡ Paused e → Listable
+  pub paused_listable : (e : ℕ) → outcome_of m st budget ≡ Ok (Paused e) → Listable
   paused_listable e q = listable (paused_search m st budget e q).0
 
 -- ---- the text, by what the search answers
 module _ (m : List ℤ) (st : List ℕ) (budget : ℕ) where
-  by : {o : Outcome} → outcome_of m st budget ≡ o → text_by o (status_after m st budget) (count m) ≡ marks_text m st budget
+  by : {o : Result Outcome Refusal} → outcome_of m st budget ≡ o → text_by o (status_after m st budget) (count m) ≡ marks_text m st budget
   unfolding marks_text
-  by e = ap (λ (o : Outcome). text_by o (status_after m st budget) (count m)) (sym e)
+  by e = ap (λ (o : Result Outcome Refusal). text_by o (status_after m st budget) (count m)) (sym e)
 
-  pub listed_refused : {x : Refusal} → outcome_of m st budget ≡ Refused x → refused_text x.number x.detail ≡ marks_text m st budget
+  pub listed_refused : {x : Refusal} → outcome_of m st budget ≡ Err x → refused_text (shown x).number (shown x).detail ≡ marks_text m st budget
   unfolding text_by
-  listed_refused e = by e
+  listed_refused {x} e = by e
 
   pub listed_done :
-      {e n : ℕ} {st' : List ℕ} → outcome_of m st budget ≡ Done e → st' ≡ status_after m st budget → n ≡ count m →
+      {e n : ℕ} {st' : List ℕ} → outcome_of m st budget ≡ Ok (Done e) → st' ≡ status_after m st budget → n ≡ count m →
       listing_text true e st' n ≡ marks_text m st budget
   unfolding text_by
   listed_done {e} q s k = ap₂ (listing_text true e) s k ∙ by q
 
   pub listed_paused :
-      {e n : ℕ} {st' : List ℕ} → outcome_of m st budget ≡ Paused e → st' ≡ status_after m st budget → n ≡ count m →
+      {e n : ℕ} {st' : List ℕ} → outcome_of m st budget ≡ Ok (Paused e) → st' ≡ status_after m st budget → n ≡ count m →
       listing_text false e st' n ≡ marks_text m st budget
   unfolding text_by
   listed_paused {e} q s k = ap₂ (listing_text false e) s k ∙ by q
@@ -106,25 +107,25 @@ listed_status m budget e s =
 
 -- ---- the whole answer
 module _ (t : List ℕ) where
-  pub answered_refused : {d : ℕ} → reading_of t ≡ reading.Refused d → refused_text 9 d ≡ answer_text t
+  pub answered_refused : {d : ℕ} → reading_of t ≡ refused d → refused_text 9 d ≡ answer_text t
   unfolding answer_text text_for
-  answered_refused e = sym (ap (λ (r : Reading). text_for r (numbers_of t)) e)
+  answered_refused e = sym (ap (λ (r : Answer). text_for r (numbers_of t)) e)
 
-  pub answered_read : {budget n : ℕ} {m : List ℤ} → reading_of t ≡ reading.Read budget n → m ≡ numbers_of t → list_text m budget ≡ answer_text t
+  pub answered_read : {r : Reading} {m : List ℤ} → reading_of t ≡ Ok r → m ≡ numbers_of t → list_text m r.budget ≡ answer_text t
   unfolding answer_text text_for
-  answered_read {budget} e q = ap (λ (m : List ℤ). list_text m budget) q ∙ sym (ap (λ (r : Reading). text_for r (numbers_of t)) e)
+  answered_read {r} e q = ap (λ (m : List ℤ). list_text m r.budget) q ∙ sym (ap (λ (r : Answer). text_for r (numbers_of t)) e)
 
-  pub status_refused : {d : ℕ} → reading_of t ≡ reading.Refused d → replicate 8128 0 ≡ answer_status t
+  pub status_refused : {d : ℕ} → reading_of t ≡ refused d → replicate 8128 0 ≡ answer_status t
   unfolding answer_status status_for
-  status_refused e = sym (ap (λ (r : Reading). status_for r (numbers_of t)) e)
+  status_refused e = sym (ap (λ (r : Answer). status_for r (numbers_of t)) e)
 
-  pub status_read : {budget n : ℕ} {m : List ℤ} → reading_of t ≡ reading.Read budget n → m ≡ numbers_of t → list_status m budget ≡ answer_status t
+  pub status_read : {r : Reading} {m : List ℤ} → reading_of t ≡ Ok r → m ≡ numbers_of t → list_status m r.budget ≡ answer_status t
   unfolding answer_status status_for
-  status_read {budget} e q = ap (λ (m : List ℤ). list_status m budget) q ∙ sym (ap (λ (r : Reading). status_for r (numbers_of t)) e)
+  status_read {r} e q = ap (λ (m : List ℤ). list_status m r.budget) q ∙ sym (ap (λ (r : Answer). status_for r (numbers_of t)) e)
 
   -- the numbers that were read stand at the start of the list
-  pub read_part : (b n : ℕ) (old : List ℤ) {m : List ℤ} → reading_of t ≡ reading.Read b n → m ≡ numbers_after t old → take n m ≡ numbers_of t
-  read_part b n old e q = ap (take n) q ∙ numbers_first t b n (sym e) old
+  pub read_part : (r : Reading) (old : List ℤ) {m : List ℤ} → reading_of t ≡ Ok r → m ≡ numbers_after t old → take r.count m ≡ numbers_of t
+  read_part r old e q = ap (take r.count) q ∙ numbers_first t r (sym e) old
 
 -- a text that stands at the start of a buffer is no longer than it
 pub stands_room : (out text : List ℕ) {out' : List ℕ} {n k : ℕ} → Stands out n text out' → length out' ≡ k → n ≤ k

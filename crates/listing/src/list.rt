@@ -1,11 +1,11 @@
-// From the text's bytes to the answer's.
+// From the text's bytes to the answer's. The room for the answer is a clause and no array's length: any lent buffer that is long enough serves.
 ghost use Rattle.std.specs.Prelude.{◌≡◌, ◌++◌, ◌≤◌, length, drop, replicate};
 ghost use Rattle.skeleton.specs.Answers.{status_after};
 ghost use Rattle.listing.specs.Program.{status_room, marks_text, list_text, list_status, answer_text, answer_status};
 
 use pairs::pair_count;
 use plane::marks::count;
-use reading::read::{Reading, read};
+use reading::read::{BadLine, Reading, read};
 use skeleton::search::{Outcome, search};
 use writing::write::{write_listing, write_refusal};
 
@@ -14,10 +14,7 @@ pub fn status_room(m: &[i32]) -> usize
     ensures room { result ≡ status_room m.now }
 {
     let n = count(m);
-    if 128 < n {
-        return 0;
-    }
-    pair_count(n)
+    if 128 < n { 0 } else { pair_count(n) }
 }
 
 // Searches, and writes what the search answers: the listing, or the line of a refusal.
@@ -27,15 +24,10 @@ pub fn list(m: &[i32], st: &mut [u8], budget: u32, out: &mut [u8]) -> usize
     ensures written { out.new ≡ marks_text m.now st.old budget ++ drop (length (marks_text m.now st.old budget)) out.old }
     ensures status { st.new ≡ status_after m.now st.old budget }
 {
-    let o = search(m, st, budget);
-    match o {
-        Outcome::Refused(f) => {
-            let number = f.number as u64;
-            let detail = f.detail as u64;
-            write_refusal(out, number, detail)
-        }
-        Outcome::Done(e) => write_listing(out, true, e as u64, &*st, count(m)),
-        Outcome::Paused(e) => write_listing(out, false, e as u64, &*st, count(m)),
+    match search(m, st, budget) {
+        Ok(Outcome::Done(e)) => write_listing(out, true, u64::from(e), st, count(m)),
+        Ok(Outcome::Paused(e)) => write_listing(out, false, u64::from(e), st, count(m)),
+        Err(f) => write_refusal(out, u64::from(f.number()), f.detail() as u64),
     }
 }
 
@@ -61,9 +53,10 @@ pub fn answer(text: &[u8], st: &mut [u8], out: &mut [u8]) -> usize
     ensures status { st.new ≡ answer_status text.now }
 {
     let mut numbers = [0i32; 2048];
-    let x = read(text, &mut numbers);
-    match x {
-        Reading::Refused(line) => write_refusal(out, 9, line as u64),
-        Reading::Read { budget, count } => list_cleared(&numbers[..count], st, budget, out),
+    match read(text, &mut numbers) {
+        Ok(Reading { budget, count }) => list_cleared(&numbers[..count], st, budget, out),
+        // Row 9 of the table, a number and no case of `Refusal`: it is of a text, which no library function sees.
+        // A `usize` becomes a `u64` by `as`: std has no `From` for the two.
+        Err(BadLine(line)) => write_refusal(out, 9, line as u64),
     }
 }

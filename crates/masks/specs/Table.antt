@@ -1,5 +1,5 @@
--- The table of left sets: 32,768 words, two for each ordered pair of numbers below 128, and the tests on it.
---   place p q             where the table has the low word of (p, q); the high word follows it
+-- The table of left sets: 16,384 sets, one for each ordered pair of numbers below 128, and the tests on it.
+--   place p q             where the table has the set of (p, q)
 --   entry t p q           what the table t has for (p, q)
 --   Table m t             t has every left set of the plate m, and so is determined
 --   Filled m t i          t has the left sets of the pairs whose number is below i, in both orders, and is empty elsewhere
@@ -17,25 +17,25 @@ use Rattle.sets.specs.Sets.{lacks, both}
 use Rattle.sides.specs.Sides.{is_mark, left_mark, left_set}
 
 abbrev pub place : ℕ → ℕ → ℕ
-place p q = p * 256 + q * 2
+place p q = p * 128 + q
 
-unfoldable pub entry : List ℕ → ℕ → ℕ → Set
-entry t p q = record { low = get_or t (place p q) 0; high = get_or t (place p q + 1) 0 }
-
-pub record Table (m : List ℤ) (t : List ℕ) : Type 0 where
-  pub size : length t ≡ 32768
-  pub each : (p q : ℕ) → p < 128 → q < 128 → entry t p q ≡ left_set m p q
-
--- ---- the table while it is filled, pair by pair
 abbrev pub empty_set : Set
 empty_set = record { low = 0; high = 0 }
 
-pub record Filled (m : List ℤ) (t : List ℕ) (i : ℕ) : Type 0 where
-  pub size : length t ≡ 32768
+unfoldable pub entry : List Set → ℕ → ℕ → Set
+entry t p q = get_or t (place p q) empty_set
+
+pub record Table (m : List ℤ) (t : List Set) : Type 0 where
+  pub size : length t ≡ 16384
+  pub each : (p q : ℕ) → p < 128 → q < 128 → entry t p q ≡ left_set m p q
+
+-- ---- the table while it is filled, pair by pair
+pub record Filled (m : List ℤ) (t : List Set) (i : ℕ) : Type 0 where
+  pub size : length t ≡ 16384
   pub each : (p q : ℕ) → p < 128 → q < 128 → entry t p q ≡ cond (ltb (pair_of p q) i) (left_set m p q) empty_set
 
-abbrev pub put_entry : List ℕ → ℕ → ℕ → Set → List ℕ
-put_entry t p q s = set (set t (place p q) s.low) (place p q + 1) s.high
+abbrev pub put_entry : List Set → ℕ → ℕ → Set → List Set
+put_entry t p q s = set t (place p q) s
 
 -- ---- tests on three entries, and on four
 abbrev pub in_three : List ℤ → ℕ → ℕ → ℕ → ℕ → Bool

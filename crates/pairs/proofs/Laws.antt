@@ -1,14 +1,17 @@
 -- Laws of pair numbers. A pair's number is below the number of pairs; two pairs with one number are the same pair, since `pair_at` gives
--- the pair back; every number below the number of pairs is some pair's. Assumes nothing.
+-- the pair back; every number below the number of pairs is some pair's; the pairs left of a list are the first of them and those after it.
+-- Assumes nothing.
 use mathlib.Core.Path.{◌≡◌, refl, sym, ap, ◌∙◌, subst}
 use mathlib.Core.Logic.{⊎_elim}
-use Prim.Native.Nat.{ℕ, zero, suc, ◌+◌, ◌*◌, ◌-◌, ◌≤◌, ◌<◌}
-use native.Mathlib.Nat.{suc-mul, mul-suc, mul-le-mul_right, eq-or-lt_of_le, le_of_suc-le-suc}
+use mathlib.Core.List.{[], ◌∷◌}
+use Prim.Native.Nat.{ℕ, zero, suc, ◌+◌, ◌*◌, ◌-◌, ◌≤◌, ◌<◌, min, max}
+use native.Mathlib.Nat.{not-suc-le-zero, suc-mul, mul-suc, mul-le-mul_right, eq-or-lt_of_le, le_of_suc-le-suc}
 use native.Mathlib.Decide.{dec_lt}
+use lib.ListN.{length, get_or}
 use native.Mathlib.Omega.{arith}
 use borrow.Author.Tests.{lt-ltb, le-ltb}
 use Rattle.pairs.specs.declared.Pair.{Pair}
-use Rattle.pairs.specs.Pairs.{pair_count, pair_number, pair_of, next_pair, pair_at}
+use Rattle.pairs.specs.Pairs.{pair_count, pair_number, pair_of, next_pair, pair_at, pairs_from, pairs_left}
 use Rattle.plane.proofs.Laws.Tells.{cond_yes, cond_no}
 
 abbrev pair : ℕ → ℕ → Pair
@@ -50,23 +53,23 @@ pub record Numbered (i : ℕ) (p : Pair) : Type 0 where
   pub up : p.a < p.b
   pub number : pair_number p.a p.b ≡ i
 
-pub next_along : (a b : ℕ) → a + 1 < b → next_pair (pair a b) ≡ pair (a + 1) b
+pub next_along : (p : Pair) → p.a + 1 < p.b → next_pair p ≡ pair (p.a + 1) p.b
 unfolding next_pair
-next_along a b h = cond_yes _ _ (lt-ltb (a + 1) b h)
+next_along p h = cond_yes _ _ (lt-ltb (p.a + 1) p.b h)
 
-pub next_turn : (a b : ℕ) → b ≤ a + 1 → next_pair (pair a b) ≡ pair 0 (b + 1)
+pub next_turn : (p : Pair) → p.b ≤ p.a + 1 → next_pair p ≡ pair 0 (p.b + 1)
 unfolding next_pair
-next_turn a b h = cond_no _ _ (le-ltb (a + 1) b h)
+next_turn p h = cond_no _ _ (le-ltb (p.a + 1) p.b h)
 
 pub next_numbered : (i : ℕ) (p : Pair) → Numbered i p → Numbered (suc i) (next_pair p)
 next_numbered i p n = go (dec_lt (p.a + 1) p.b)
   where
     go : Dec (p.a + 1 < p.b) → Numbered (suc i) (next_pair p)
-    go (yes l) = subst (Numbered (suc i)) (sym (next_along p.a p.b l)) (record { up = l; number = let e = n.number in omega arith })
+    go (yes l) = subst (Numbered (suc i)) (sym (next_along p l)) (record { up = l; number = let e = n.number in omega arith })
     go (no d) =
         let u = n.up in
         let e : p.b ≡ p.a + 1 = omega arith in
-        subst (Numbered (suc i)) (sym (next_turn p.a p.b (omega arith)))
+        subst (Numbered (suc i)) (sym (next_turn p (omega arith)))
         (record { up = omega arith; number = turned p.a p.b e n.number })
       where
         turned : (a b : ℕ) → b ≡ a + 1 → pair_number a b ≡ i → pair_number 0 (b + 1) ≡ suc i
@@ -112,6 +115,20 @@ pub pair_of_down : (p q : ℕ) → q ≤ p → pair_of p q ≡ pair_number q p
 unfolding pair_of
 pair_of_down p q h = cond_no _ _ (le-ltb p q h)
 
+pub pair_of_ordered : (p q : ℕ) → pair_number (min p q) (max p q) ≡ pair_of p q
+pair_of_ordered p q = go (dec_lt p q)
+  where
+    go : Dec (p < q) → pair_number (min p q) (max p q) ≡ pair_of p q
+    go (yes h) =
+        let lo : min p q ≡ p = omega arith in
+        let hi : max p q ≡ q = omega arith in
+        rw (lo, hi) (sym (pair_of_up p q h))
+    go (no d) =
+        let h : q ≤ p = omega arith in
+        let lo : min p q ≡ q = omega arith in
+        let hi : max p q ≡ p = omega arith in
+        rw (lo, hi) (sym (pair_of_down p q h))
+
 pub pair_of_swap : (p q : ℕ) → pair_of p q ≡ pair_of q p
 pair_of_swap p q = go (dec_lt p q) (dec_lt q p)
   where
@@ -126,3 +143,47 @@ pair_of_below p q n d h k = go (dec_lt p q)
     go : Dec (p < q) → pair_of p q < pair_count n
     go (yes l) = rw (pair_of_up p q l) (pair_below p q n l k)
     go (no x) = rw (pair_of_down p q (omega arith)) (pair_below q p n (⊎_elim (λ e. absurd (d (sym e))) (λ l. l) (eq-or-lt_of_le (let z : q ≤ p = omega arith in z))) h)
+
+-- ---- the pairs that are left
+own_number : (p : Pair) → p.a < p.b → Numbered (pair_number p.a p.b) p
+own_number p h = record { up = h; number = refl }
+
+pub next_up : (p : Pair) → p.a < p.b → (next_pair p).a < (next_pair p).b
+next_up p h = (next_numbered (pair_number p.a p.b) p (own_number p h)).up
+
+pub left_more : (p : Pair) (n : ℕ) → p.a < p.b → p.b < n → pairs_left p n ≡ p ∷ pairs_left (next_pair p) n
+unfolding pairs_from
+left_more p n h l = rw (one_more, pair_at_number p.a p.b h, next, less) refl
+  where
+    i : ℕ
+    i = pair_number p.a p.b
+
+    less : pair_count n - (i + 1) ≡ pair_count n - suc i
+    less = omega arith
+
+    one_more : pair_count n - i ≡ suc (pair_count n - suc i)
+    one_more = let b = pair_below p.a p.b n h l in omega arith
+
+    next : pair_number (next_pair p).a (next_pair p).b ≡ i + 1
+    next = let e = (next_numbered i p (own_number p h)).number in omega arith
+
+pub left_none : (p : Pair) (n : ℕ) → p.a < p.b → n ≤ p.b → pairs_left p n ≡ []
+unfolding pairs_from
+left_none p n h l =
+    let u = pair_count_up n p.b l in
+    let e : pair_count n - pair_number p.a p.b ≡ 0 = omega arith in
+    rw e refl
+
+-- ---- the list of all pairs: as many as there are, each at its number
+pub pairs_from_length : (i k : ℕ) → length (pairs_from i k) ≡ k
+unfolding pairs_from
+pairs_from_length i zero = refl
+pairs_from_length i (suc k) = ap suc (pairs_from_length (i + 1) k)
+
+pub pairs_from_at : (i k j : ℕ) (d : Pair) → j < k → get_or (pairs_from i k) j d ≡ pair_at (i + j)
+unfolding pairs_from
+pairs_from_at i zero j d h = absurd (not-suc-le-zero h)
+pairs_from_at i (suc k) zero d h = let e : i ≡ i + 0 = omega arith in ap pair_at e
+pairs_from_at i (suc k) (suc j) d h =
+    let e : i + 1 + j ≡ i + suc j = omega arith in
+    pairs_from_at (i + 1) k j d (le_of_suc-le-suc h) ∙ ap pair_at e

@@ -4,6 +4,7 @@ pub mod Numbers
 pub mod Marks
 pub mod Bounds
 pub mod Side
+pub mod Asked
 pub mod Bits
 pub mod Segment
 pub mod Cross

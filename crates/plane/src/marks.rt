@@ -2,7 +2,7 @@
 ghost use Rattle.std.specs.Prelude.{◌≡◌};
 ghost use Rattle.plane.specs.Marks.{count, mark, IsMark, same_point};
 
-#[derive(Clone, Copy)]
+#[derive(Clone, Copy, Debug, PartialEq, Eq)]
 pub struct Point {
     pub x: i32,
     pub y: i32,
@@ -30,8 +30,5 @@ pub fn mark(m: &[i32], i: usize) -> Point
 pub fn is_same(p: Point, q: Point) -> bool
     ensures same { result ≡ same_point p q }
 {
-    if p.x != q.x {
-        return false;
-    }
-    p.y == q.y
+    p == q
 }

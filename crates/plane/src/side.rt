@@ -1,31 +1,15 @@
 // Rule 1: on which side of the line from p to q a point lies. What `side` answers is read by `is_left`, `is_right` and `is_on` alone,
 // which would read the doubled area itself in the same way.
 ghost use Rattle.std.specs.Prelude.{◌≡◌};
-ghost use Rattle.plane.specs.Marks.{InRange};
-ghost use Rattle.plane.specs.Side.{sign, side, is_left, is_right, is_on, same_side, opposite};
+ghost use Rattle.plane.specs.Side.{side, is_left, is_right, is_on, same_side, opposite};
 
-use super::marks::Point;
+use super::spot::Spot;
 
-fn sign(z: i32) -> i32
-    ensures signed { result ≡ sign z }
-{
-    if z == 0 {
-        return 0;
-    }
-    if z < 0 {
-        return -1;
-    }
-    1
-}
-
-// The side test.
-pub fn side(p: Point, q: Point, r: Point) -> i32
-    requires p_in_range { InRange p }
-    requires q_in_range { InRange q }
-    requires r_in_range { InRange r }
+// The side test. Its answer is the number -1, 0 or 1 and no enum: `side` of specs/Side.antt, which the contract and rule 1's laws name, is one.
+pub fn side(p: Spot, q: Spot, r: Spot) -> i32
     ensures sided { result ≡ side p q r }
 {
-    sign((q.x - p.x) * (r.y - p.y) - (q.y - p.y) * (r.x - p.x))
+    ((q.x - p.x) * (r.y - p.y) - (q.y - p.y) * (r.x - p.x)).signum()
 }
 
 pub fn is_left(s: i32) -> bool
@@ -51,12 +35,10 @@ pub fn is_same_side(s: i32, t: i32) -> bool
     ensures same { result ≡ same_side s t }
 {
     if is_left(s) {
-        return is_left(t);
+        is_left(t)
+    } else {
+        is_right(s) && is_right(t)
     }
-    if is_right(s) {
-        return is_right(t);
-    }
-    false
 }
 
 // One strictly left, and the other strictly right.
@@ -64,10 +46,8 @@ pub fn is_opposite(s: i32, t: i32) -> bool
     ensures opposite { result ≡ opposite s t }
 {
     if is_left(s) {
-        return is_right(t);
+        is_right(t)
+    } else {
+        is_right(s) && is_left(t)
     }
-    if is_right(s) {
-        return is_left(t);
-    }
-    false
 }

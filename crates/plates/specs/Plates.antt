@@ -5,10 +5,11 @@
 --   outcome_at k, status_at k  its result
 --   lent_at k                  the status bytes that are lent
 --   right_at k                 the search gives that result
-use Rattle.std.specs.Prelude.{Bool, true, false, cond, List, [], ◌∷◌, ℕ, ◌+◌, ◌*◌, eqb, ℤ, pos, ◌-ℤ◌, get_or, take, drop, replicate}
+use Rattle.std.specs.Prelude.{Bool, true, false, cond, Result, Ok, Err, List, [], ◌∷◌, ℕ, ◌+◌, ◌*◌, eqb, ℤ, pos, ◌-ℤ◌, get_or, take, drop, replicate}
 use Rattle.pairs.specs.Pairs.{pair_count}
+use Rattle.refusals.specs.declared.Refusal.{Refusal}
 use Rattle.skeleton.specs.declared.search.Outcome.{Outcome}
-use Rattle.skeleton.specs.declared.search.Outcome.TheVariants.{Refused, Done, Paused}
+use Rattle.skeleton.specs.declared.search.Outcome.TheVariants.{Done, Paused}
 use Rattle.skeleton.specs.Answers.{outcome_of, status_after}
 
 unfoldable pub table : List ℕ
@@ -42,8 +43,8 @@ marks_at k = coordinates (take (number_at k 0 * 2) (drop (k * 24 + 4) table))
 unfoldable pub budget_at : ℕ → ℕ
 budget_at k = number_at k 1
 
-unfoldable pub outcome_at : ℕ → Outcome
-outcome_at k = cond (eqb (number_at k 2) 1) (Done (number_at k 3)) (Paused (number_at k 3))
+unfoldable pub outcome_at : ℕ → Result Outcome Refusal
+outcome_at k = Ok (cond (eqb (number_at k 2) 1) (Done (number_at k 3)) (Paused (number_at k 3)))
 
 unfoldable pub status_at : ℕ → List ℕ
 status_at k = take (pair_count (number_at k 0)) (drop (k * 24 + 14) table)
@@ -53,14 +54,13 @@ unfoldable pub lent_at : ℕ → List ℕ
 lent_at k = replicate (pair_count (number_at k 0)) 7
 
 -- ---- the test
-unfoldable pub same_outcome : Outcome → Outcome → Bool
-same_outcome (Refused x) o = false
-same_outcome (Done e) (Refused x) = false
-same_outcome (Done e) (Done f) = eqb e f
-same_outcome (Done e) (Paused f) = false
-same_outcome (Paused e) (Refused x) = false
-same_outcome (Paused e) (Done f) = false
-same_outcome (Paused e) (Paused f) = eqb e f
+unfoldable pub same_outcome : Result Outcome Refusal → Result Outcome Refusal → Bool
+same_outcome (Err x) o = false
+same_outcome (Ok o) (Err x) = false
+same_outcome (Ok (Done e)) (Ok (Done f)) = eqb e f
+same_outcome (Ok (Done e)) (Ok (Paused f)) = false
+same_outcome (Ok (Paused e)) (Ok (Done f)) = false
+same_outcome (Ok (Paused e)) (Ok (Paused f)) = eqb e f
 
 unfoldable pub same_list : List ℕ → List ℕ → Bool
 same_list [] [] = true

@@ -5,11 +5,12 @@ ghost use Rattle.std.specs.Prelude.{◌≡◌, ◌<◌, ◌≤◌, length, get_o
 ghost use Rattle.plates.specs.Plates.{table};
 
 use pairs::pair_count;
-use skeleton::search::{Outcome, search};
+use skeleton::search::search;
 use std::io;
 
 // A row has 24 numbers: how many marks, the budget, 1 for done and 0 for paused, the examinations, the marks with 10 added to each
 // coordinate, the statuses. Places that a plate does not need say nothing.
+// Numbers and no rows of a struct: they are `table` of specs/Plates.antt, number by number, over which the one statement `all_right` computes.
 const TABLE: [u32; 312] = [
     // none
     0, 1000, 1, 0, 10, 10, 10, 10, 10, 10, 10, 10, 10, 10, 0, 0, 0, 0, 0, 0, 0, 0, 0, 0,
@@ -39,6 +40,7 @@ const TABLE: [u32; 312] = [
     5, 5, 0, 5, 10, 10, 11, 8, 18, 7, 19, 13, 11, 12, 2, 1, 2, 0, 0, 2, 2, 1, 2, 2,
 ];
 
+#[tactic(auto, unfolding(crate::specs::Plates::table))]
 fn entry(i: usize) -> u32
     requires { i < 312 }
     ensures entry { result ≡ get_or table i 0 }
@@ -46,52 +48,17 @@ fn entry(i: usize) -> u32
     TABLE[i]
 }
 
-fn at_most(x: u32, most: u32) -> u32
-    ensures small { result ≤ most }
-{
-    if most < x {
-        return most;
-    }
-    x
-}
-
-// How many pairs n marks have; no plate of the table has more than 10.
-fn pairs(n: usize) -> usize
-    requires { n ≤ 128 }
-    ensures few { result ≤ 10 }
-{
-    let k = pair_count(n);
-    if 10 < k {
-        return 10;
-    }
-    k
-}
-
 fn coordinate(i: usize) -> i32
     requires { i < 312 }
 {
-    let x = at_most(entry(i), 20);
-    x as i32 - 10
+    // From a `u32` of at most 20: std has no `From` for the two.
+    entry(i).min(20) as i32 - 10
 }
 
-fn load_marks(row: usize, marks: &mut [i32])
-    requires row_bound { row < 289 }
-    requires marks_len { length marks.old ≡ 10 }
+fn marks_of(row: usize) -> [i32; 10]
+    requires { row < 289 }
 {
-    let mut i = 0;
-    while i < 10 {
-        let x = coordinate(row + 4 + i);
-        marks[i] = x;
-        i += 1;
-    }
-}
-
-fn show_outcome(rt: &impl Print, o: Outcome) -> io::Result<()> {
-    match o {
-        Outcome::Refused(f) => print!(rt; "refused {} {}", f.number, f.detail),
-        Outcome::Done(e) => print!(rt; "done {e}"),
-        Outcome::Paused(e) => print!(rt; "paused {e}"),
-    }
+    std::array::from_fn(|i| coordinate(row + 4 + i))
 }
 
 fn show_bytes(rt: &impl Print, st: &[u8]) -> io::Result<()> {
@@ -103,21 +70,24 @@ fn show_bytes(rt: &impl Print, st: &[u8]) -> io::Result<()> {
 
 // Searches, and prints the outcome and the statuses.
 fn show_search(rt: &impl Print, m: &[i32], st: &mut [u8], budget: u32) -> io::Result<()> {
-    let o = search(m, st, budget);
-    show_outcome(rt, o)?;
-    show_bytes(rt, &*st)
+    match search(m, st, budget) {
+        Ok(outcome) => print!(rt; "{outcome}")?,
+        Err(refusal) => print!(rt; "{refusal}")?,
+    }
+    show_bytes(rt, st)
 }
 
 // The same, of the plate whose row starts at `row`.
 fn show_plate(rt: &impl Print, row: usize) -> io::Result<()>
     requires { row < 289 }
 {
-    let n = at_most(entry(row), 5) as usize;
+    // From a `u32` of at most 5: std has no `From` for the two.
+    let n = entry(row).min(5) as usize;
     let budget = entry(row + 1);
-    let mut marks = [0i32; 10];
-    load_marks(row, &mut marks);
+    let marks = marks_of(row);
     let mut status = [7u8; 10];
-    let p = pairs(n);
+    // No plate of the table has more than 10 pairs.
+    let p = pair_count(n).min(10);
     show_search(rt, &marks[..n * 2], &mut status[..p], budget)
 }
 

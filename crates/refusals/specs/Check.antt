@@ -4,11 +4,16 @@
 --   first_out m               the index of the first number outside the range; the list's length where none is
 --   has_twin m j              mark j equals an earlier mark
 --   first_twin m              the smallest mark number that equals an earlier mark; n where none does
+--   found k n                 k, where it is below n
+--   shown x                   the number and the detail that the controller shows of the refusal x
+--   refusal_words x           the refusal x as it is printed
+--   shown_by v                what it shows of the answer v; 0 and 0 where nothing is refused
+--   Refused v s               the answer v is a refusal of which the controller shows s
 --   verdict m                 the answer to the list m
---   number_of v, detail_of v  what the controller shows of the answer v
-use Rattle.std.specs.Prelude.{◌≡◌, Bool, not, cond, List, ℕ, ◌%◌, ◌<◌, eqb, leb, ltb, length, get_or, ℤ, pos, nat_abs}
-use Rattle.refusals.specs.declared.Verdict.{Verdict}
-use Rattle.refusals.specs.declared.Verdict.TheVariants.{Accepted, Refused}
+--   number_of v, detail_of v  what the controller shows of the answer v to a list
+use Rattle.std.specs.Prelude.{◌≡◌, Bool, not, cond, Option, Some, None, Result, Ok, Err, List, ◌++◌, codes, decimal, ℕ, ◌%◌, ◌<◌, eqb, leb, ltb, length, get_or, ℤ, pos, nat_abs}
+use Rattle.refusals.specs.declared.Refusal.{Refusal}
+use Rattle.refusals.specs.declared.Refusal.TheVariants.{OddLength, TooManyMarks, OutOfRange, EqualMarks, BufferLength, ByteAboveTwo, NotAPair, Uncrossed}
 use Rattle.plane.specs.Numbers.{all_to, first_to}
 use Rattle.plane.specs.Marks.{count, mark, IsMark, same_point}
 
@@ -38,25 +43,57 @@ has_twin m j = not (all_to j (differs m j))
 unfoldable pub first_twin : List ℤ → ℕ
 first_twin m = first_to (count m) (has_twin m)
 
--- the number that the controller shows, and its detail; both 0 for an accepted list
-unfoldable pub number_of : Verdict → ℕ
-number_of Accepted = 0
-number_of (Refused r) = r.number
+-- what a search over the numbers below n has found, where it has come to k
+unfoldable pub found : ℕ → ℕ → Option ℕ
+found k n = cond (ltb k n) (Some k) None
 
-unfoldable pub detail_of : Verdict → ℕ
-detail_of Accepted = 0
-detail_of (Refused r) = r.detail
+-- ---- the table's rows: "Numbers the controller shows"
+pub record Shown : Type 0 where
+  pub number : ℕ
+  pub detail : ℕ
 
-abbrev pub refused : ℕ → ℕ → Verdict
-refused n d = Refused (record { number = n; detail = d })
+abbrev pub shows : ℕ → ℕ → Shown
+shows n d = record { number = n; detail = d }
+
+unfoldable pub shown : Refusal → Shown
+shown (OddLength d) = shows 1 d
+shown (TooManyMarks d) = shows 2 d
+shown (OutOfRange d) = shows 3 d
+shown (EqualMarks d) = shows 4 d
+shown (BufferLength d) = shows 5 d
+shown (ByteAboveTwo d) = shows 6 d
+shown NotAPair = shows 7 0
+shown (Uncrossed d) = shows 8 d
+
+-- a refusal as it is printed
+abbrev pub refusal_words : Refusal → List ℕ
+refusal_words x = codes "refused " ++ decimal (shown x).number ++ codes " " ++ decimal (shown x).detail
+
+-- ---- an answer that may be a refusal: 0 and 0 are shown where nothing is refused
+unfoldable pub shown_by : {A : Type 0} → Result A Refusal → Shown
+shown_by (Ok x) = shows 0 0
+shown_by (Err x) = shown x
+
+abbrev pub Refused : {A : Type 0} → Result A Refusal → Shown → Type 0
+Refused v s = (x : Refusal) × (v ≡ Err x) × (shown x ≡ s)
+
+-- ---- the answer to a list
+abbrev pub Verdict : Type 0
+Verdict = Result (Unit {0}) Refusal
+
+abbrev pub number_of : Verdict → ℕ
+number_of v = (shown_by v).number
+
+abbrev pub detail_of : Verdict → ℕ
+detail_of v = (shown_by v).detail
 
 unfoldable pub verdict : List ℤ → Verdict
 verdict m =
-    cond (eqb (length m % 2) 1) (refused 1 (length m))
-    (cond (ltb 128 (count m)) (refused 2 (count m))
-    (cond (ltb (first_out m) (length m)) (refused 3 (first_out m))
-    (cond (ltb (first_twin m) (count m)) (refused 4 (first_twin m))
-    Accepted)))
+    cond (eqb (length m % 2) 1) (Err (OddLength (length m)))
+    (cond (ltb 128 (count m)) (Err (TooManyMarks (count m)))
+    (cond (ltb (first_out m) (length m)) (Err (OutOfRange (first_out m)))
+    (cond (ltb (first_twin m) (count m)) (Err (EqualMarks (first_twin m)))
+    (Ok tt))))
 
 pub data Row (m : List ℤ) (n d : ℕ) : Type 0 where
   -- 1 | list length odd | the length

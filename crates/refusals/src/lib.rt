@@ -1,46 +1,95 @@
 // The check of a list: the first four rows of 01's table. Every list gets an answer.
 #![tactic(auto)]
 
-ghost use Rattle.std.specs.Prelude.{◌≡◌, ◌<◌};
-ghost use Rattle.plane.specs.Marks.{IsMark};
-ghost use Rattle.refusals.specs.Check.{in_range, first_out, has_twin, first_twin, verdict};
+ghost use Rattle.std.specs.Prelude.{◌≡◌, ◌<◌, length};
+ghost use Rattle.plane.specs.Marks.{IsMark, count};
+ghost use Rattle.refusals.specs.Check.{found, in_range, first_out, has_twin, first_twin, shown, verdict};
 
 use plane::marks::{count, is_same, mark};
+use std::error::Error;
+use std::fmt;
 
-// A number of 01's table, and its detail.
-#[derive(Clone, Copy)]
-pub struct Refusal {
-    pub number: u8,
-    pub detail: usize,
+// A row of 01's table, with its detail.
+#[derive(Clone, Copy, Debug, PartialEq, Eq)]
+pub enum Refusal {
+    // List length odd: the length.
+    OddLength(usize),
+    // More than 128 marks: how many.
+    TooManyMarks(usize),
+    // A number outside the range: the index in the list of the first.
+    OutOfRange(usize),
+    // Two marks equal: the smallest mark number that equals an earlier mark.
+    EqualMarks(usize),
+    // Status buffer not n(n-1)/2 long: n(n-1)/2.
+    BufferLength(usize),
+    // Certificate request, a byte above 2: the index of the first.
+    ByteAboveTwo(usize),
+    // Certificate request, not a < b < n.
+    NotAPair,
+    // Search, an edge without a certificate that nothing remaining crosses: its pair number.
+    Uncrossed(usize),
 }
 
-#[derive(Clone, Copy)]
-pub enum Verdict {
-    Accepted,
-    Refused(Refusal),
+impl Refusal {
+    // The number of the row.
+    #[tactic(auto, unfolding(crate::specs::Check::shown))]
+    pub fn number(self) -> u8
+        ensures number { result ≡ (shown self).number }
+    {
+        match self {
+            Refusal::OddLength(_) => 1,
+            Refusal::TooManyMarks(_) => 2,
+            Refusal::OutOfRange(_) => 3,
+            Refusal::EqualMarks(_) => 4,
+            Refusal::BufferLength(_) => 5,
+            Refusal::ByteAboveTwo(_) => 6,
+            Refusal::NotAPair => 7,
+            Refusal::Uncrossed(_) => 8,
+        }
+    }
+
+    // Its detail; 0 where the row has none.
+    #[tactic(auto, unfolding(crate::specs::Check::shown))]
+    pub fn detail(self) -> usize
+        ensures detail { result ≡ (shown self).detail }
+    {
+        match self {
+            Refusal::OddLength(k)
+            | Refusal::TooManyMarks(k)
+            | Refusal::OutOfRange(k)
+            | Refusal::EqualMarks(k)
+            | Refusal::BufferLength(k)
+            | Refusal::ByteAboveTwo(k)
+            | Refusal::Uncrossed(k) => k,
+            Refusal::NotAPair => 0,
+        }
+    }
 }
+
+impl fmt::Display for Refusal {
+    ghost use Rattle.std.specs.Prelude.{Some};
+    ghost use Rattle.refusals.specs.Check.{refusal_words};
+
+    ghost output = { λ x. Some (refusal_words x) };
+
+    fn fmt<W: fmt::Write>(&self, f: &mut fmt::Formatter<W>) -> fmt::Result {
+        write!(f, "refused {} {}", self.number(), self.detail())
+    }
+}
+
+impl Error for Refusal {}
 
 fn is_in_range(z: i32) -> bool
     ensures ranged { result ≡ in_range z }
 {
-    if z < -10000 {
-        return false;
-    }
-    z <= 10000
+    (-10000..=10000).contains(&z)
 }
 
-// The index of the first number outside the range, or the list's length.
-fn first_out(m: &[i32]) -> usize
-    ensures first { result ≡ first_out m.now }
+// The index of the first number outside the range.
+fn first_out(m: &[i32]) -> Option<usize>
+    ensures first { result ≡ found (first_out m.now) (length m.now) }
 {
-    let mut k = 0;
-    while k < m.len() {
-        if !is_in_range(m[k]) {
-            return k;
-        }
-        k += 1;
-    }
-    k
+    m.iter().position(|&z| !is_in_range(z))
 }
 
 // Mark j equals an earlier mark.
@@ -49,60 +98,31 @@ fn has_twin(m: &[i32], j: usize) -> bool
     ensures twin { result ≡ has_twin m.now j }
 {
     let p = mark(m, j);
-    let mut i = 0;
-    while i < j {
-        if is_same(mark(m, i), p) {
-            return true;
-        }
-        i += 1;
-    }
-    false
+    (0..j).any(|i| is_same(mark(m, i), p))
 }
 
-// The first mark that equals an earlier one, or the number of marks.
-fn first_twin(m: &[i32]) -> usize
-    ensures first { result ≡ first_twin m.now }
+// The first mark that equals an earlier one.
+fn first_twin(m: &[i32]) -> Option<usize>
+    ensures first { result ≡ found (first_twin m.now) (count m.now) }
 {
-    let n = count(m);
-    let mut j = 0;
-    while j < n {
-        if has_twin(m, j) {
-            return j;
-        }
-        j += 1;
-    }
-    j
+    (0..count(m)).find(|&j| has_twin(m, j))
 }
 
-pub fn check_list(m: &[i32]) -> Verdict
+pub fn check_list(m: &[i32]) -> Result<(), Refusal>
     ensures answered { result ≡ verdict m.now }
 {
     if m.len() % 2 == 1 {
-        return Verdict::Refused(Refusal {
-            number: 1,
-            detail: m.len(),
-        });
+        return Err(Refusal::OddLength(m.len()));
     }
     let n = count(m);
     if 128 < n {
-        return Verdict::Refused(Refusal {
-            number: 2,
-            detail: n,
-        });
+        return Err(Refusal::TooManyMarks(n));
     }
-    let out = first_out(m);
-    if out < m.len() {
-        return Verdict::Refused(Refusal {
-            number: 3,
-            detail: out,
-        });
+    if let Some(k) = first_out(m) {
+        return Err(Refusal::OutOfRange(k));
     }
-    let twin = first_twin(m);
-    if twin < n {
-        return Verdict::Refused(Refusal {
-            number: 4,
-            detail: twin,
-        });
+    if let Some(j) = first_twin(m) {
+        return Err(Refusal::EqualMarks(j));
     }
-    Verdict::Accepted
+    Ok(())
 }

@@ -5,7 +5,7 @@ use mathlib.Core.List.{List}
 use Prim.Native.Nat.{ℕ, ◌+◌, ◌<◌, ◌≤◌}
 use native.Mathlib.Decide.{ℕ_discrete}
 use native.Mathlib.Omega.{arith}
-use lib.ListN.{length, get_or, set, replicate, length-set, length-replicate, get_or-replicate}
+use lib.ListN.{length, get_or, set, length-set}
 use lib.Seq.{get_or-set_same, get_or-set_other, ext_get_or}
 use Rattle.striking.specs.Below.{list_below}
 use Rattle.striking.proofs.Below.{length_list, list_at}
@@ -50,9 +50,3 @@ module _ {f : ℕ → ℕ} {i : ℕ} {st₀ st : List ℕ} (h : Filling f i st�
   filling_end n e l =
       ext_get_or 0 st (list_below n f) (h.size ∙ e ∙ sym (length_list f n))
       (λ j k. let s = h.size in h.done j (omega arith) ∙ sym (list_at f n j (omega arith)))
-
--- one byte throughout
-pub filling_one : {v i : ℕ} {st₀ st : List ℕ} → Filling (λ j. v) i st₀ st → length st₀ ≤ i → st ≡ replicate (length st₀) v
-filling_one {v} {i} {st₀} {st} h l =
-    ext_get_or 0 st (replicate (length st₀) v) (h.size ∙ sym (length-replicate (length st₀) v))
-    (λ j k. let s = h.size in h.done j (omega arith) ∙ sym (get_or-replicate (length st₀) j v 0 (omega arith)))

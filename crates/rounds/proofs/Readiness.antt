@@ -9,7 +9,8 @@ use lib.Dec.{eqb}
 use lib.IntN.{ℤ}
 use lib.ListN.{length, get_or, set, length-set}
 use Rattle.pairs.specs.declared.Pair.{Pair}
-use Rattle.plane.specs.Marks.{count, IsMark}
+use Rattle.sets.specs.declared.Set.{Set}
+use Rattle.plane.specs.Marks.{count}
 use Rattle.pairs.specs.Pairs.{pair_number}
 use Rattle.plane.specs.Edge.{empty_edge}
 use Rattle.plane.specs.Hull.{one_sided, kind_of}
@@ -21,6 +22,7 @@ use Rattle.striking.specs.Status.{remaining, all_edges, status_byte}
 use Rattle.striking.proofs.Remaining.{struck_within, all_edges_lem}
 use Rattle.certificates.specs.Plate.{edges_of, plate}
 use Rattle.certificates.specs.Rows.{Rows, Clean}
+use Rattle.certificates.specs.Rule9.{IsPair}
 use Rattle.rounds.specs.Run.{edge_byte, Ready}
 use Rattle.certificates.proofs.Lawful.{lawful}
 use Rattle.certificates.proofs.Pairs.{edge_at}
@@ -39,7 +41,7 @@ edge_byte_lem {m} {i} {p} h =
     go true false = refl
     go false y = refl
 
-pub filled_next : {m : List ℤ} {t : List ℕ} {i n : ℕ} → i ≡ n → Filled m t (n + 1) → Filled m t (i + 1)
+pub filled_next : {m : List ℤ} {t : List Set} {i n : ℕ} → i ≡ n → Filled m t (n + 1) → Filled m t (i + 1)
 filled_next {m} {t} e h = subst (λ (x : ℕ). Filled m t (x + 1)) (sym e) h
 
 -- ---- clean bytes
@@ -54,38 +56,38 @@ clean_start m =
     record { edges = λ a b l k r. sym (edge_at m a b (record { up = l; marks = k })) ∙ sym (all_edges_lem (plate m) (lawful m) (pair_number a b)) ∙ r }
 
 -- ---- ready buffers
-pub ready_same : {m : List ℤ} {st st' t d : List ℕ} → length st' ≡ length st → remaining st' ≡ remaining st → Ready m st t d → Ready m st' t d
-ready_same {m} {st} {st'} {t} {d} n e h =
+pub ready_same : {m : List ℤ} {st st' : List ℕ} {d : List Set} → length st' ≡ length st → remaining st' ≡ remaining st → Ready m st d → Ready m st' d
+ready_same {m} {st} {st'} {d} n e h =
     record {
       accepted = h.accepted;
       long = n ∙ h.long;
       clean = clean_same e h.clean;
-      table = h.table;
       rows = subst (λ (S : ℕ → Bool). Rows m (edges_of m S) d) (sym e) h.rows;
     }
 
 pub ready_struck :
-    {m : List ℤ} {st t d d' : List ℕ} (a b i : ℕ) → i ≡ pair_number a b → Ready m st t d →
-    Rows m (edges_of m (remaining (set st (pair_number a b) 0))) d' → Ready m (set st i 0) t d'
-ready_struck {m} {st} {t} {d} {d'} a b i e h r =
-    record {
-      accepted = h.accepted;
-      long = length-set st i 0 ∙ h.long;
-      clean = clean_struck i h.clean;
-      table = h.table;
-      rows = subst (λ (x : ℕ). Rows m (edges_of m (remaining (set st x 0))) d') (sym e) r;
-    }
+    {m : List ℤ} {st : List ℕ} {d d' : List Set} (i : ℕ) → Ready m st d → Rows m (edges_of m (remaining (set st i 0))) d' →
+    Ready m (set st i 0) d'
+ready_struck {m} {st} {d} {d'} i h r =
+    record { accepted = h.accepted; long = length-set st i 0 ∙ h.long; clean = clean_struck i h.clean; rows = r }
 
 -- the number of a pair is a place of the status buffer
-pub ready_place : {m : List ℤ} {st t d : List ℕ} {i a b : ℕ} → Ready m st t d → a < b → IsMark m b → i ≡ pair_number a b → i < length st
-ready_place {m} {st} {t} {d} {i} {a} {b} h l k e = rw (e, h.long) (pair_below a b (count m) l k)
+pub ready_place : {m : List ℤ} {st : List ℕ} {d : List Set} {a b : ℕ} → Ready m st d → IsPair m a b → pair_number a b < length st
+ready_place {m} {st} {d} {a} {b} h p = rw h.long (pair_below a b (count m) p.up p.marks)
+
+-- a pair that remains is an empty edge
+pub kept_edge :
+    {m : List ℤ} {st : List ℕ} {d : List Set} {a b : ℕ} → Ready m st d → IsPair m a b →
+    remaining st (pair_number a b) ≡ true → empty_edge m a b ≡ true
+kept_edge {m} {st} {d} {a} {b} h p q = h.clean.edges a b p.up p.marks q
 
 -- a pair that has to be examined is an empty edge
 pub due_edge :
-    {m : List ℤ} {st t d : List ℕ} {i a b : ℕ} → Ready m st t d → a < b → IsMark m b → i ≡ pair_number a b →
-    due (plate m) (remaining st) i ≡ true → empty_edge m a b ≡ true
+    {m : List ℤ} {st : List ℕ} {d : List Set} {a b : ℕ} → Ready m st d → IsPair m a b →
+    due (plate m) (remaining st) (pair_number a b) ≡ true → empty_edge m a b ≡ true
 unfolding due
-due_edge {m} {st} {t} {d} {i} {a} {b} h l k e q = h.clean.edges a b l k (ap (remaining st) (sym e) ∙ first (remaining st i) ((plate m).inner i) q)
+due_edge {m} {st} {d} {a} {b} h p q =
+    kept_edge h p (first (remaining st (pair_number a b)) ((plate m).inner (pair_number a b)) q)
   where
     first : (x y : Bool) → cond x y false ≡ true → x ≡ true
     first true y z = refl

@@ -14,17 +14,17 @@ use Rattle.striking.specs.Status.{remaining}
 use Rattle.striking.specs.Search.{done, paused, answer8, State, going, over, examine, visit, visits, rounds}
 use Rattle.striking.proofs.Steps.{visit_pass, visit_pause, visit_examines, visit_over, after, rounds_more}
 use Rattle.striking.proofs.Invariants.{Grown, GrownAt, round_grows}
-use Rattle.certificates.specs.declared.certificate.Pick.{Pick}
-use Rattle.certificates.specs.declared.certificate.Pick.TheVariants.{Nothing, Apexes}
-use Rattle.rounds.specs.declared.Halt.{Halt}
-use Rattle.rounds.specs.declared.Halt.TheVariants.{Going, Finished, Spent, Stuck}
-use Rattle.rounds.specs.declared.Run.{Run}
+use Rattle.std.specs.Prelude.{Option, is_some}
+use Rattle.certificates.specs.declared.certificate.Apexes.{Apexes}
+use Rattle.rounds.specs.declared.search.Halt.{Halt}
+use Rattle.rounds.specs.declared.search.Halt.TheVariants.{Going, Finished, Spent, Stuck}
+use Rattle.rounds.specs.declared.search.Run.{Run}
 use Rattle.certificates.specs.Certificate.{first_certificate}
-use Rattle.certificates.specs.Plate.{edges_of, is_found, certified, plate}
+use Rattle.certificates.specs.Plate.{edges_of, certified, plate}
 use Rattle.rounds.specs.Run.{outcome_by, as_final, state_by, as_state}
 
 -- ---- what is known of the certificate is known of the system
-vouched_by : (m : List ℤ) (S : ℕ → Bool) (a b : ℕ) → a < b → (plate m).vouched S (pair_number a b) ≡ is_found (first_certificate m (edges_of m S) a b)
+vouched_by : (m : List ℤ) (S : ℕ → Bool) (a b : ℕ) → a < b → (plate m).vouched S (pair_number a b) ≡ is_some (first_certificate m (edges_of m S) a b)
 unfolding plate certified
 vouched_by m S a b l = ap (certified m (edges_of m S)) (pair_at_number a b l)
 
@@ -33,25 +33,27 @@ module _ (m : List ℤ) (struck : Bool) (e : ℕ) (st : List ℕ) (a b : ℕ) (l
   abbrev y : System
   y = plate m
 
-  found : {i : ℕ} (p : Pick) → i ≡ pair_number a b → p ≡ first_certificate m (edges_of m (remaining st)) a b → y.vouched (remaining st) i ≡ is_found p
-  found p n f = ap (y.vouched (remaining st)) n ∙ vouched_by m (remaining st) a b l ∙ ap is_found (sym f)
+  abbrev i : ℕ
+  i = pair_number a b
 
-  pub examine_keeps :
-      {i r s : ℕ} {p : Pick} → i ≡ pair_number a b → p ≡ first_certificate m (edges_of m (remaining st)) a b → p ≡ Apexes r s →
-      going struck (e + 1) st ≡ examine y struck e st i
-  unfolding examine is_found
-  examine_keeps {i} {r} {s} {p} n f q = sym (rw (examine, found p n f ∙ ap is_found q))
+  found : {p : Option Apexes} → p ≡ first_certificate m (edges_of m (remaining st)) a b → y.vouched (remaining st) i ≡ is_some p
+  found f = vouched_by m (remaining st) a b l ∙ ap is_some (sym f)
 
-  module _ {i : ℕ} {p : Pick} (n : i ≡ pair_number a b) (f : p ≡ first_certificate m (edges_of m (remaining st)) a b) (q : p ≡ Nothing) where
-    pub examine_strikes : crossed y (remaining st) i ≡ true → going true (e + 1) (set st i 0) ≡ examine y struck e st i
-    unfolding examine is_found
-    examine_strikes c = sym (rw (examine, found p n f ∙ ap is_found q, c))
+  module _ {p : Option Apexes} (f : p ≡ first_certificate m (edges_of m (remaining st)) a b) where
+    pub examine_keeps : is_some p ≡ true → going struck (e + 1) st ≡ examine y struck e st i
+    unfolding examine
+    examine_keeps q = sym (rw (examine, found f ∙ q))
 
-    pub examine_stuck :
-        crossed y (remaining st) i ≡ false →
-        over (record { outcome = answer8 i; examinations = e + 1; rest = st }) ≡ examine y struck e st i
-    unfolding examine is_found
-    examine_stuck c = sym (rw (examine, found p n f ∙ ap is_found q, c))
+    module _ (q : is_some p ≡ false) where
+      pub examine_strikes : crossed y (remaining st) i ≡ true → going true (e + 1) (set st i 0) ≡ examine y struck e st i
+      unfolding examine
+      examine_strikes c = sym (rw (examine, found f ∙ q, c))
+
+      pub examine_stuck :
+          crossed y (remaining st) i ≡ false →
+          over (record { outcome = answer8 i; examinations = e + 1; rest = st }) ≡ examine y struck e st i
+      unfolding examine
+      examine_stuck c = sym (rw (examine, found f ∙ q, c))
 
 -- ---- the code's state
 pub state_going : {run : Run} {st : List ℕ} → run.halt ≡ Going → as_state run st ≡ going run.struck run.exams st

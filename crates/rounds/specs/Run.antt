@@ -2,18 +2,19 @@
 --   edge_byte k      the byte with which a pair of kind k starts
 --   as_state run st  the round under way
 --   as_final run st  the search that is over
---   Ready m st t d   the bytes st remain of the plate m, and the words t and d are its table and its rows
+--   Ready m st d     the bytes st remain of the plate m, and d are their rows
+--   IsGoing run      no end is reached
 use Rattle.std.specs.Prelude.{◌≡◌, List, ℕ, ℤ, length}
 use Rattle.plane.specs.declared.hull.Kind.{Kind}
 use Rattle.plane.specs.declared.hull.Kind.TheVariants.{Blocked, Hull, Inner}
 use Rattle.plane.specs.Marks.{count, Plate}
 use Rattle.pairs.specs.Pairs.{pair_count}
-use Rattle.masks.specs.Table.{Table}
+use Rattle.sets.specs.declared.Set.{Set}
 use Rattle.striking.specs.Status.{remaining}
 use Rattle.striking.specs.Search.{Outcome, done, paused, answer8, Final, State, going, over}
-use Rattle.rounds.specs.declared.Halt.{Halt}
-use Rattle.rounds.specs.declared.Halt.TheVariants.{Going, Finished, Spent, Stuck}
-use Rattle.rounds.specs.declared.Run.{Run}
+use Rattle.rounds.specs.declared.search.Halt.{Halt}
+use Rattle.rounds.specs.declared.search.Halt.TheVariants.{Going, Finished, Spent, Stuck}
+use Rattle.rounds.specs.declared.search.Run.{Run}
 use Rattle.certificates.specs.Plate.{edges_of}
 use Rattle.certificates.specs.Rows.{Rows, Clean}
 
@@ -41,9 +42,12 @@ state_by (Stuck i) run st = over (as_final run st)
 unfoldable pub as_state : Run → List ℕ → State
 as_state run st = state_by run.halt run st
 
-pub record Ready (m : List ℤ) (st t d : List ℕ) : Type 0 where
+pub record Ready (m : List ℤ) (st : List ℕ) (d : List Set) : Type 0 where
   pub accepted : Plate m
   pub long : length st ≡ pair_count (count m)
   pub clean : Clean m st
-  pub table : Table m t
   pub rows : Rows m (edges_of m (remaining st)) d
+
+-- no end is reached
+abbrev pub IsGoing : Run → Type 0
+IsGoing run = run.halt ≡ Going

@@ -4,3 +4,4 @@ pub mod Words
 pub mod Lowest
 pub mod Sets
 pub mod Members
+pub mod Pop

@@ -4,10 +4,15 @@
 --   in_word w k i  i is in the word w, whose lowest digit stands for k
 --   has s i        i is in the set s
 --   none s         s is empty
+--   first s, rest s  the first member of s, or none; s without it, or s where it is empty
+--   PopsFirst s r t  r is the first of s, and t its rest
+--   members_rest x   the set of those that the iterator x has left
+--   members_left s   how many numbers below 128 are not before the first of s, so that the members end
 --   both f g, either f g, including f k, without f k  f and g; f or g; f, and k too; f, and k no more
-use Rattle.std.specs.Prelude.{Bool, true, false, not, cond, ℕ, zero, suc, ◌+◌, ◌*◌, ◌-◌, ◌/◌, ◌%◌, ◌^◌, eqb, ltb}
-use Rattle.plane.specs.Numbers.{all_to}
+use Rattle.std.specs.Prelude.{◌≡◌, Bool, true, false, not, cond, Option, None, Some, ℕ, zero, suc, ◌+◌, ◌*◌, ◌-◌, ◌/◌, ◌%◌, ◌^◌, eqb, ltb}
+use Rattle.plane.specs.Numbers.{all_to, first_to}
 use Rattle.sets.specs.declared.Set.{Set}
+use Rattle.sets.specs.declared.Members.{Members}
 
 abbrev pub bit : Bool → ℕ
 bit true = 1
@@ -43,3 +48,19 @@ including f k i = cond (eqb i k) true (f i)
 
 unfoldable pub without : (ℕ → Bool) → ℕ → ℕ → Bool
 without f k i = cond (eqb i k) false (f i)
+
+unfoldable pub first : Set → Option ℕ
+first s = cond (none s) None (Some (first_to 128 (has s)))
+
+unfoldable pub rest : Set → Set
+rest s = cond (none s) s (set_of (without (has s) (first_to 128 (has s))))
+
+pub record PopsFirst (s : Set) (r : Option ℕ) (t : Set) : Type 0 where
+  pub first : r ≡ first s
+  pub rest : t ≡ rest s
+
+abbrev pub members_left : Set → ℕ
+members_left s = 128 - first_to 128 (has s)
+
+abbrev pub members_rest : Members → Set
+members_rest x = x.rest

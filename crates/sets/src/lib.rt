@@ -2,125 +2,144 @@
 #![tactic(auto)]
 
 ghost use Rattle.std.specs.Prelude.{◌≡◌, ◌<◌};
-ghost use Rattle.plane.specs.Numbers.{first_to};
-ghost use Rattle.sets.specs.Sets.{set_of, has, none, both, either, including, without};
+ghost use Rattle.sets.specs.Sets.{set_of, has, none, first, rest, both, either, including, without};
 
-#[derive(Clone, Copy)]
+// Two words and no array or wider number: `set_of` and `has` of specs/Sets.antt, and the edits about the wrong half, are about `low` and `high`.
+#[derive(Clone, Copy, PartialEq, Eq)]
 pub struct Set {
     pub low: u64,
     pub high: u64,
 }
 
-// The first of the set, or 128 where it is empty.
-pub fn first_of(s: Set) -> usize
-    ensures first { result ≡ first_to 128 (has s) }
-{
-    let a = s.low;
-    if a != 0 {
-        return u64::trailing_zeros(a) as usize;
+impl Set {
+    pub const EMPTY: Set = Set { low: 0, high: 0 };
+
+    pub fn contains(self, i: usize) -> bool
+        requires { i < 128 }
+        ensures member { result ≡ has self i }
+    {
+        if i < 64 {
+            (self.low >> i) % 2 == 1
+        } else {
+            (self.high >> (i - 64)) % 2 == 1
+        }
     }
-    let b = s.high;
-    64 + (u64::trailing_zeros(b) as usize)
+
+    pub fn is_empty(self) -> bool
+        ensures none { result ≡ none self }
+    {
+        self.low == 0 && self.high == 0
+    }
+
+    // Takes the first out, and gives it. A `u32` becomes a `usize` by `as`: std has no `From` for the two.
+    // The test of both words comes first, so that a loop has one way out and what does not change leaves it.
+    pub fn pop_first(&mut self) -> Option<usize>
+        ensures first { result ≡ first self.old }
+        ensures rest { self.new ≡ rest self.old }
+    {
+        if self.is_empty() {
+            return None;
+        }
+        if self.low != 0 {
+            let k = self.low.trailing_zeros() as usize;
+            self.low &= self.low - 1;
+            Some(k)
+        } else {
+            let k = 64 + self.high.trailing_zeros() as usize;
+            self.high &= self.high - 1;
+            Some(k)
+        }
+    }
+
+    // What is in both sets.
+    pub fn intersection(self, other: Set) -> Set
+        ensures both { result ≡ set_of (both (has self) (has other)) }
+    {
+        Set {
+            low: self.low & other.low,
+            high: self.high & other.high,
+        }
+    }
+
+    // What is in either set.
+    pub fn union(self, other: Set) -> Set
+        ensures either { result ≡ set_of (either (has self) (has other)) }
+    {
+        Set {
+            low: self.low | other.low,
+            high: self.high | other.high,
+        }
+    }
+
+    // The set with k.
+    pub fn with(self, k: usize) -> Set
+        requires { k < 128 }
+        ensures added { result ≡ set_of (including (has self) k) }
+    {
+        if k < 64 {
+            Set {
+                low: self.low | (1 << k),
+                ..self
+            }
+        } else {
+            Set {
+                high: self.high | (1 << (k - 64)),
+                ..self
+            }
+        }
+    }
+
+    // The set without k.
+    pub fn without(self, k: usize) -> Set
+        requires { k < 128 }
+        ensures removed { result ≡ set_of (without (has self) k) }
+    {
+        if k < 64 {
+            Set {
+                low: self.low & !(1 << k),
+                ..self
+            }
+        } else {
+            Set {
+                high: self.high & !(1 << (k - 64)),
+                ..self
+            }
+        }
+    }
 }
 
-// The set without its first, k.
-pub fn rest_of(s: Set, k: usize) -> Set
-    requires k_value { k ≡ first_to 128 (has s) }
-    requires k_bound { k < 128 }
-    ensures rest { result ≡ set_of (without (has s) k) }
-{
-    let a = s.low;
-    let b = s.high;
-    if a != 0 {
-        return Set {
-            low: a & (a - 1),
-            high: b,
-        };
-    }
-    Set {
-        low: a,
-        high: b & (b - 1),
+// The members of a set, smallest first.
+#[derive(Clone, Copy)]
+pub struct Members {
+    rest: Set,
+}
+
+impl Iterator for Members {
+    type Item = usize;
+
+    ghost use Rattle.std.specs.Iterator.{at_most};
+    ghost use Rattle.sets.specs.Sets.{PopsFirst, members_left, members_rest};
+
+    ghost next_gives = { λ s r t. PopsFirst (members_rest s) r (members_rest t) };
+
+    ghost remaining = { λ s. at_most (members_left (members_rest s)) };
+
+    fn next(&mut self) -> Option<usize> {
+        self.rest.pop_first()
     }
 }
 
-pub fn has_mark(s: Set, i: usize) -> bool
-    requires { i < 128 }
-    ensures member { result ≡ has s i }
-{
-    let a = s.low;
-    let b = s.high;
-    if i < 64 {
-        return (a >> (i as u32)) % 2 == 1;
-    }
-    let k = i - 64;
-    (b >> (k as u32)) % 2 == 1
-}
+impl IntoIterator for Set {
+    type Item = usize;
 
-pub fn is_none(s: Set) -> bool
-    ensures none { result ≡ none s }
-{
-    if s.low != 0 {
-        return false;
-    }
-    s.high == 0
-}
+    type IntoIter = Members;
 
-// What is in both sets.
-pub fn meet(s: Set, t: Set) -> Set
-    ensures both { result ≡ set_of (both (has s) (has t)) }
-{
-    Set {
-        low: s.low & t.low,
-        high: s.high & t.high,
-    }
-}
+    ghost use Rattle.std.specs.Prelude.{◌≡◌};
+    ghost use Rattle.sets.specs.Sets.{members_rest};
 
-// What is in either set.
-pub fn join(s: Set, t: Set) -> Set
-    ensures either { result ≡ set_of (either (has s) (has t)) }
-{
-    Set {
-        low: s.low | t.low,
-        high: s.high | t.high,
-    }
-}
+    ghost into_iter_gives = { λ s r. members_rest r ≡ s };
 
-// The set with k.
-pub fn add(s: Set, k: usize) -> Set
-    requires { k < 128 }
-    ensures added { result ≡ set_of (including (has s) k) }
-{
-    let a = s.low;
-    let b = s.high;
-    if k < 64 {
-        return Set {
-            low: a | (1 << (k as u32)),
-            high: b,
-        };
-    }
-    let i = k - 64;
-    Set {
-        low: a,
-        high: b | (1 << (i as u32)),
-    }
-}
-
-// The set without k.
-pub fn remove(s: Set, k: usize) -> Set
-    requires { k < 128 }
-    ensures removed { result ≡ set_of (without (has s) k) }
-{
-    let a = s.low;
-    let b = s.high;
-    if k < 64 {
-        return Set {
-            low: a & !(1 << (k as u32)),
-            high: b,
-        };
-    }
-    let i = k - 64;
-    Set {
-        low: a,
-        high: b & !(1 << (i as u32)),
+    fn into_iter(self) -> Members {
+        Members { rest: self }
     }
 }

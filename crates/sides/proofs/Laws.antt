@@ -22,7 +22,7 @@ use Rattle.plane.specs.Hull.{not_left, not_right, one_sided, kind_of}
 use Rattle.plane.proofs.Laws.Numbers.{all_none}
 use Rattle.plane.proofs.Laws.Tells.{Tells, tells_map, tells_and, tells_same, cond_yes, cond_no}
 use Rattle.plane.proofs.Laws.Side.{left_of_tells, right_of_tells}
-use Rattle.sides.specs.declared.Pass.{Pass}
+use Rattle.sets.specs.declared.Set.{Set}
 use Rattle.sides.specs.declared.Sides.{Sides}
 use Rattle.sets.specs.Sets.{bit, word, set_of, has, lacks, none}
 use Rattle.sides.specs.Sides.{is_mark, left_mark, left_set, all_in, Passed, Found, kind_by}
@@ -115,7 +115,7 @@ all_down f k hi h l =
     let d : suc (k - 1) ≡ k = omega arith in
     ap (λ (j : ℕ). all_in (k - 1) j f) e ∙ ap (λ (x : ℕ). cond (all_in x (hi - k) f) (f (k - 1)) false) d
 
-abbrev pub found : ℕ → ℕ → Bool → Pass
+abbrev pub found : ℕ → ℕ → Bool → Sides ℕ
 found l r c = record { left = l; right = r; clear = c }
 
 pub pass_none : (m : List ℤ) (a b hi : ℕ) → Passed m a b hi (hi - hi) (found 0 0 true)
@@ -193,7 +193,7 @@ module _ (m : List ℤ) (p q : ℕ) (plate : Plate m) where
           ∙ word_short (left_mark m p q) 64 (count m - 64) 64 (omega arith) (λ i a b. left_past m p q i (omega arith))
 
 pub two_halves :
-    {m : List ℤ} {a b h n : ℕ} {x y : Pass} {c : Bool} → Plate m → n ≡ count m → h ≡ min n 64 →
+    {m : List ℤ} {a b h n : ℕ} {x y : Sides ℕ} {c : Bool} → Plate m → n ≡ count m → h ≡ min n 64 →
     Passed m a b 0 (h - 0) x → Passed m a b h (n - h) y → c ≡ cond x.clear y.clear false →
     Found m a b (record { left = record { low = x.left; high = y.left }; right = record { low = x.right; high = y.right }; clear = c })
 unfolding left_set set_of empty_edge
@@ -219,7 +219,7 @@ none_left_of m p q g plate h =
     ∙ all_short (lacks (left_mark m p q)) (count m) 128 plate.few (λ k a b. ap not (left_past m p q k a))
     ∙ all_same (lacks (left_mark m p q)) g (count m) h
 
-pub kind_found : {m : List ℤ} {a b : ℕ} {x : Sides} → Plate m → IsMark m a → IsMark m b → Found m a b x → kind_by x ≡ kind_of m a b
+pub kind_found : {m : List ℤ} {a b : ℕ} {x : Sides Set} → Plate m → IsMark m a → IsMark m b → Found m a b x → kind_by x ≡ kind_of m a b
 unfolding kind_by kind_of one_sided not_left not_right
 kind_found {m} {a} {b} {x} plate ha hb f =
     (λ i. cond (f.free i) (cond (nl i) Hull (cond (nr i) Hull Inner)) Blocked)
@@ -234,3 +234,12 @@ kind_found {m} {a} {b} {x} plate ha hb f =
 
     nr : none x.right ≡ every_mark m (not_right m a b)
     nr = ap none f.rights ∙ none_left_of m b a (not_right m a b) plate (λ k hk. ap not (left_mark_lem m b a k hb ha hk ∙ left_right _ _ _))
+
+-- a mark that the edge is clear of changes nothing; one that it is not clear of decides
+pub stays : (t c : Bool) → c ≡ true → t ≡ cond t c false
+stays true c e = sym e
+stays false c e = refl
+
+pub stops : (t c : Bool) → c ≡ false → false ≡ cond t c false
+stops true c e = sym e
+stops false c e = refl

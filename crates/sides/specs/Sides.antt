@@ -12,7 +12,6 @@ use Rattle.plane.specs.Edge.{clear, empty_edge}
 use Rattle.plane.specs.declared.hull.Kind.{Kind}
 use Rattle.plane.specs.declared.hull.Kind.TheVariants.{Blocked, Hull, Inner}
 use Rattle.sets.specs.declared.Set.{Set}
-use Rattle.sides.specs.declared.Pass.{Pass}
 use Rattle.sides.specs.declared.Sides.{Sides}
 use Rattle.sets.specs.Sets.{word, set_of, none}
 
@@ -32,16 +31,16 @@ all_in k zero f = true
 all_in k (suc j) f = cond (all_in (suc k) j f) (f k) false
 
 -- what a pass of the marks k to k + j - 1 against the pair (a, b) finds: those left, those right, and whether the edge is clear of them
-pub record Passed (m : List ℤ) (a b k j : ℕ) (x : Pass) : Type 0 where
+pub record Passed (m : List ℤ) (a b k j : ℕ) (x : Sides ℕ) : Type 0 where
   pub lefts : x.left ≡ word (left_mark m a b) k j
   pub rights : x.right ≡ word (left_mark m b a) k j
   pub free : x.clear ≡ all_in k j (clear m a b)
 
 -- what a pass of all marks finds
-pub record Found (m : List ℤ) (a b : ℕ) (x : Sides) : Type 0 where
+pub record Found (m : List ℤ) (a b : ℕ) (x : Sides Set) : Type 0 where
   pub lefts : x.left ≡ left_set m a b
   pub rights : x.right ≡ left_set m b a
   pub free : x.clear ≡ empty_edge m a b
 
-unfoldable pub kind_by : Sides → Kind
+unfoldable pub kind_by : Sides Set → Kind
 kind_by x = cond x.clear (cond (none x.left) Hull (cond (none x.right) Hull Inner)) Blocked

@@ -5,6 +5,7 @@ use mathlib.Core.List.{List}
 use Prim.Native.Nat.{ℕ, ◌<◌, ◌≤◌}
 use native.Mathlib.Omega.{arith}
 use lib.IntN.{ℤ}
+use Rattle.std.specs.Prelude.{Some}
 use Rattle.plane.specs.declared.hull.Kind.{Kind}
 use Rattle.plane.specs.declared.hull.Kind.TheVariants.{Blocked, Hull, Inner}
 use Rattle.plane.specs.Marks.{count, IsMark}
@@ -12,19 +13,18 @@ use Rattle.plane.specs.Edge.{empty_edge}
 use Rattle.plane.specs.Hull.{one_sided, hull_edge, kind_of}
 use Rattle.plane.proofs.Laws.Tells.{tells_yes}
 use Rattle.plane.proofs.Laws.Side.{left_of_tells, right_of_tells}
+use Rattle.skeleton.specs.declared.request.Reply.{Reply}
 use Rattle.skeleton.specs.declared.request.Reply.TheVariants.{NotEmpty}
 use Rattle.skeleton.specs.declared.request.Reply.TheVariants as reply
-use Rattle.skeleton.specs.declared.request.Answer.{Answer}
-use Rattle.certificates.specs.declared.certificate.Pick.TheVariants.{Apexes}
 use Rattle.certificates.specs.Certificate.{first_certificate}
 use Rattle.certificates.specs.Rows.{Apart}
-use Rattle.skeleton.specs.Answers.{without, answer_with, answer_in}
+use Rattle.skeleton.specs.Answers.{answer_with, answer_in}
 use Rattle.certificates.proofs.First.{found_first}
 use Rattle.certificates.proofs.Rule7.{left_apart}
 
-answer_by : Kind → Answer → Answer
-answer_by Blocked x = without NotEmpty
-answer_by Hull x = without reply.Hull
+answer_by : Kind → Reply → Reply
+answer_by Blocked x = NotEmpty
+answer_by Hull x = reply.Hull
 answer_by Inner x = x
 
 module _ (m : List ℤ) (K : ℕ → ℕ → Bool) (a b : ℕ) where
@@ -34,7 +34,7 @@ module _ (m : List ℤ) (K : ℕ → ℕ → Bool) (a b : ℕ) where
     where
       go :
           (x y : Bool) →
-          cond x (cond (cond x y false) (without reply.Hull) (answer_with a b (first_certificate m K a b))) (without NotEmpty)
+          cond x (cond (cond x y false) reply.Hull (answer_with a b (first_certificate m K a b))) NotEmpty
           ≡ answer_by (cond x (cond y Hull Inner) Blocked) (answer_with a b (first_certificate m K a b))
       go true true = refl
       go true false = refl
@@ -43,11 +43,11 @@ module _ (m : List ℤ) (K : ℕ → ℕ → Bool) (a b : ℕ) where
   answer_as : {k : Kind} → kind_of m a b ≡ k → answer_in m K a b ≡ answer_by k (answer_with a b (first_certificate m K a b))
   answer_as e = by_kind ∙ ap (λ (k : Kind). answer_by k (answer_with a b (first_certificate m K a b))) e
 
-  pub answer_blocked : kind_of m a b ≡ Blocked → answer_in m K a b ≡ without NotEmpty
+  pub answer_blocked : kind_of m a b ≡ Blocked → answer_in m K a b ≡ NotEmpty
   unfolding answer_by
   answer_blocked e = answer_as e
 
-  pub answer_hull : kind_of m a b ≡ Hull → answer_in m K a b ≡ without reply.Hull
+  pub answer_hull : kind_of m a b ≡ Hull → answer_in m K a b ≡ reply.Hull
   unfolding answer_by
   answer_hull e = answer_as e
 
@@ -66,7 +66,7 @@ inner_empty m a b e = go (empty_edge m a b) (one_sided m a b) e
 
 -- the apexes of a certificate are small, and no ends of its edge
 pub apexes_apart :
-    (m : List ℤ) (K : ℕ → ℕ → Bool) (p q : ℕ) {r s : ℕ} → count m ≤ 128 → p < q → IsMark m q → first_certificate m K p q ≡ Apexes r s →
+    (m : List ℤ) (K : ℕ → ℕ → Bool) (p q : ℕ) {r s : ℕ} → count m ≤ 128 → p < q → IsMark m q → first_certificate m K p q ≡ Some (record { r = r; s = s }) →
     Apart p q r × Apart p q s
 apexes_apart m K p q {r} {s} few up marks e =
     let c = (found_first m K p q e).certificate in

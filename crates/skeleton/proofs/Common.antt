@@ -9,6 +9,7 @@ use native.Mathlib.Omega.{arith}
 use lib.Dec.{eqb}
 use lib.IntN.{ℤ}
 use lib.ListN.{length, get_or, get_or-eq_default}
+use Rattle.sets.specs.declared.Set.{Set}
 use Rattle.plane.specs.Marks.{count, IsMark}
 use Rattle.pairs.specs.Pairs.{pair_count, pair_number}
 use Rattle.plane.specs.Edge.{empty_edge}
@@ -77,5 +78,5 @@ module _ (m : List ℤ) (st : List ℕ) {own : List ℕ} (kept : own ≡ common 
           let l : pair_count (count m) ≤ pair_number a b = omega arith in
           ap (λ (x : Bool). cond x (empty_edge m a b) false) (past own common_long l ∙ sym (past st long l))
 
-  pub common_rows : {d : List ℕ} → Rows m (edges_of m (remaining own)) d → Rows m (edges_of m (remaining st)) d
+  pub common_rows : {d : List Set} → Rows m (edges_of m (remaining own)) d → Rows m (edges_of m (remaining st)) d
   common_rows = rows_same same

@@ -12,26 +12,29 @@ use borrow.Author.Tests.{eqb-false, ne_eqb, ltb-true, ltb-false, lt-ltb, le-ltb}
 use lib.Dec.{eqb, ltb}
 use lib.ListN.{length, get_or}
 use lib.IntN.{ℤ}
+use Rattle.std.specs.Prelude.{Result, Ok, Err}
 use Rattle.refusals.specs.declared.Refusal.{Refusal}
-use Rattle.refusals.specs.declared.Verdict.{Verdict}
-use Rattle.refusals.specs.declared.Verdict.TheVariants.{Accepted, Refused}
+use Rattle.refusals.specs.declared.Refusal.TheVariants.{BufferLength, ByteAboveTwo, NotAPair, Uncrossed}
 use Rattle.plane.specs.Marks.{Plate, count}
 use Rattle.pairs.specs.Pairs.{pair_count}
 use Rattle.refusals.proofs.Laws.{refused_exactly, row_small, row_positive, accepted_plate}
-use Rattle.refusals.specs.Check.{refused, verdict}
+use Rattle.refusals.specs.Check.{Shown, shows, shown, Refused, Verdict, verdict}
 use Rattle.plane.proofs.Laws.Numbers.{first_at, first_past, Seek, found, nowhere, seek}
 use Rattle.plane.proofs.Laws.Tells.{cond_yes, cond_no}
 use Rattle.striking.specs.Search.{done, paused, answer8, search_result}
 use Rattle.striking.specs.Search as any
 use Rattle.striking.proofs.Tests.{not_both}
 use Rattle.skeleton.specs.declared.search.Outcome.{Outcome}
-use Rattle.skeleton.specs.declared.search.Outcome.TheVariants.{Done, Paused}
 use Rattle.certificates.specs.Plate.{plate}
 use Rattle.certificates.specs.Rule9.{IsPair}
 use Rattle.skeleton.specs.Answers.{or_else, buffer_row, is_above, first_above, byte_row, pair_row}
 use Rattle.skeleton.specs.Answers.{search_refusal, request_refusal, told, outcome_after, outcome_of}
 use Rattle.skeleton.specs.Table.{SearchRow, RequestRow, list, buffer, byte, pair, uncrossed}
 use Rattle.skeleton.proofs.Settled.{not_accepted, or_first, or_second, At, Settled, settled_exactly, settled_none, settled_at, settled_or, settled_as, from_refused}
+
+-- another verdict that is the same
+at_as : {v w : Verdict} {n d : ℕ} → v ≡ w → At w n d → At v n d
+at_as {v} {w} {n} {d} e h = (h.0, e ∙ h.1, h.2)
 
 -- ---- rows 1 to 4
 pub list_number : (m : List ℤ) (n d : ℕ) → At (verdict m) n d → n ≤ 4
@@ -43,68 +46,70 @@ list_positive m n d e = row_positive m n d ((refused_exactly m n d).0 e).0
 -- ---- row 5
 module _ (m : List ℤ) (st : List ℕ) where
   buffer_at : (length st ≡ pair_count (count m) → ⊥) → At (buffer_row m st) 5 (pair_count (count m))
-  unfolding buffer_row
-  buffer_at h = cond_no _ _ (ne_eqb (length st) (pair_count (count m)) h)
+  unfolding buffer_row shown
+  buffer_at h = (BufferLength (pair_count (count m)), cond_no _ _ (ne_eqb (length st) (pair_count (count m)) h), refl)
 
   at_buffer :
       (R : ℕ → ℕ → Type 0) → ((length st ≡ pair_count (count m) → ⊥) → R 5 (pair_count (count m))) → (n d : ℕ) →
       At (buffer_row m st) n d → R n d
-  unfolding buffer_row
+  unfolding buffer_row shown
   at_buffer R f n d e = go (eqb (length st) (pair_count (count m))) refl e
     where
       go :
-          (t : Bool) → eqb (length st) (pair_count (count m)) ≡ t → At (cond t Accepted (refused 5 (pair_count (count m)))) n d →
+          (t : Bool) → eqb (length st) (pair_count (count m)) ≡ t → At (cond t (Ok tt) (Err (BufferLength (pair_count (count m))))) n d →
           R n d
-      go true q e = not_accepted e
+      go true q e = not_accepted e.1
       go false q e = from_refused R (f (eqb-false (length st) (pair_count (count m)) q)) e
 
 -- ---- row 6
 module _ (st : List ℕ) where
   byte_at : (k : ℕ) → k < length st → 2 < get_or st k 0 → ((j : ℕ) → j < k → get_or st j 0 ≤ 2) → At (byte_row st) 6 k
-  unfolding byte_row first_above is_above
+  unfolding byte_row first_above is_above shown
   byte_at k l h small =
       let e = first_at (is_above st) (length st) k l (λ j i. le-ltb 2 (get_or st j 0) (small j i)) (lt-ltb 2 (get_or st k 0) h) in
-      subst (λ (i : ℕ). At (cond (ltb i (length st)) (refused 6 i) Accepted) 6 k) (sym e) (cond_yes _ _ (lt-ltb k (length st) l))
+      subst (λ (i : ℕ). At (cond (ltb i (length st)) (Err (ByteAboveTwo i)) (Ok tt)) 6 k) (sym e)
+      (ByteAboveTwo k, cond_yes _ _ (lt-ltb k (length st) l), refl)
 
   at_byte :
       (R : ℕ → ℕ → Type 0) →
       ((k : ℕ) → k < length st → 2 < get_or st k 0 → ((j : ℕ) → j < k → get_or st j 0 ≤ 2) → R 6 k) → (n d : ℕ) →
       At (byte_row st) n d → R n d
-  unfolding byte_row first_above is_above
+  unfolding byte_row first_above is_above shown
   at_byte R f n d e = go (seek (is_above st) (length st))
     where
       go : Seek (is_above st) (length st) → R n d
       go (found k l before h) =
           let above = ltb-true 2 (get_or st k 0) h in
           let small : (j : ℕ) → j < k → get_or st j 0 ≤ 2 = λ j i. ltb-false 2 (get_or st j 0) (before j i) in
-          from_refused R (f k l above small) (sym (byte_at k l above small) ∙ e)
+          from_refused R (f k l above small) (at_as (sym (cond_yes _ _ (lt-ltb k (length st) l)) ∙ ap (λ (i : ℕ). cond (ltb i (length st)) (Err (ByteAboveTwo i)) (Ok tt)) (sym (first_at (is_above st) (length st) k l before h))) e)
       go (nowhere h) =
           let past = le_of_eq (sym (first_past (is_above st) (length st) h)) in
-          not_accepted (sym (cond_no _ _ (le-ltb _ (length st) past)) ∙ e)
+          not_accepted (sym (cond_no _ _ (le-ltb _ (length st) past)) ∙ e.1)
 
 -- ---- row 7
 module _ (m : List ℤ) (a b : ℕ) where
   -- (a, b) is a pair, or row 7 is given
-  pub pair_cases : IsPair m a b ⊎ ((IsPair m a b → ⊥) × (pair_row m a b ≡ refused 7 0))
+  pub pair_cases : IsPair m a b ⊎ ((IsPair m a b → ⊥) × (pair_row m a b ≡ Err NotAPair))
   unfolding pair_row
   pair_cases = go (ltb a b) refl (ltb b (count m)) refl
     where
       go :
           (s : Bool) → ltb a b ≡ s → (t : Bool) → ltb b (count m) ≡ t →
-          IsPair m a b ⊎ ((IsPair m a b → ⊥) × (cond s (cond t Accepted (refused 7 0)) (refused 7 0) ≡ refused 7 0))
+          IsPair m a b ⊎ ((IsPair m a b → ⊥) × (◌≡◌ {A = Verdict} (cond s (cond t (Ok tt) (Err NotAPair)) (Err NotAPair)) (Err NotAPair)))
       go true e true f = inl (record { up = ltb-true a b e; marks = ltb-true b (count m) f })
       go true e false f = inr ((λ p. not_both (lt-ltb b (count m) p.marks) f), refl)
       go false e t f = inr ((λ p. not_both (lt-ltb a b p.up) e), refl)
 
   pair_at_lem : (IsPair m a b → ⊥) → At (pair_row m a b) 7 0
-  pair_at_lem h = ⊎_elim (λ p. absurd (h p)) (λ r. r.1) pair_cases
+  unfolding shown
+  pair_at_lem h = ⊎_elim (λ p. absurd (h p)) (λ r. (NotAPair, r.1, refl)) pair_cases
 
   at_pair : (R : ℕ → ℕ → Type 0) → ((IsPair m a b → ⊥) → R 7 0) → (n d : ℕ) → At (pair_row m a b) n d → R n d
-  unfolding pair_row
+  unfolding pair_row shown
   at_pair R f n d e =
       ⊎_elim
-      (λ p. not_accepted (sym (cond_yes _ _ (lt-ltb a b p.up) ∙ cond_yes _ _ (lt-ltb b (count m) p.marks)) ∙ e))
-      (λ r. from_refused R (f r.0) (sym r.1 ∙ e)) pair_cases
+      (λ p. not_accepted (sym (cond_yes _ _ (lt-ltb a b p.up) ∙ cond_yes _ _ (lt-ltb b (count m) p.marks)) ∙ e.1))
+      (λ r. from_refused R (f r.0) (at_as (sym r.1) e)) pair_cases
 
 -- ---- rows 1 to 5
 module _ (m : List ℤ) (st : List ℕ) where
@@ -122,17 +127,17 @@ module _ (m : List ℤ) (st : List ℕ) where
   early_number n d (inl v) = let l = list_number m n d v in omega arith
   early_number n d (inr w) = let e = at_buffer m st (λ n d. n ≡ 5) (λ h. refl) n d w in omega arith
 
-  pub refused_early : (x : Refusal) → search_refusal m st ≡ Refused x → x.number ≤ 5
+  pub refused_early : (x : Shown) → Refused (search_refusal m st) x → x.number ≤ 5
   refused_early x e = early_number _ _ ((settled_exactly early_settled x).0 e).applies
 
-  pub accepted_long : search_refusal m st ≡ Accepted → length st ≡ pair_count (count m)
+  pub accepted_long : search_refusal m st ≡ Ok tt → length st ≡ pair_count (count m)
   accepted_long e = go (ℕ_discrete (length st) (pair_count (count m)))
     where
       go : Dec (length st ≡ pair_count (count m)) → length st ≡ pair_count (count m)
       go (yes h) = h
       go (no h) = absurd ((settled_none early_settled).0 e _ _ (inr (buffer_at m st h)))
 
-  pub accepted_list : search_refusal m st ≡ Accepted → Plate m
+  pub accepted_list : search_refusal m st ≡ Ok tt → Plate m
   unfolding search_refusal
   accepted_list e = accepted_plate m (or_first (verdict m) (buffer_row m st) e)
 
@@ -151,7 +156,7 @@ module _ (m : List ℤ) (st : List ℕ) (a b : ℕ) where
   late_number n d (inl v) = let e = six n d v in omega arith
   late_number n d (inr w) = let e = seven n d w in omega arith
 
-  pub accepted_request : request_refusal m st a b ≡ Accepted → (search_refusal m st ≡ Accepted) × IsPair m a b
+  pub accepted_request : request_refusal m st a b ≡ Ok tt → (search_refusal m st ≡ Ok tt) × IsPair m a b
   unfolding request_refusal
   accepted_request e = (
     or_first (search_refusal m st) _ e,
@@ -168,7 +173,7 @@ module _ (m : List ℤ) (st : List ℕ) (a b : ℕ) where
       (settled_at (byte_row st)) (settled_at (pair_row m a b))))
     where
       row_of : (n d : ℕ) → Early m st n d ⊎ Late n d → RequestRow m st a b n d
-      row_of n d (inl (inl v)) = list (record { number = n; detail = d }) v
+      row_of n d (inl (inl v)) = list (shows n d) v
       row_of n d (inl (inr v)) = at_buffer m st (RequestRow m st a b) buffer n d v
       row_of n d (inr (inl v)) = at_byte st (RequestRow m st a b) byte n d v
       row_of n d (inr (inr v)) = at_pair m a b (RequestRow m st a b) pair n d v
@@ -180,35 +185,34 @@ module _ (m : List ℤ) (st : List ℕ) (a b : ℕ) where
       at_row n d (pair h) = inr (inr (pair_at_lem m a b h))
 
 -- ---- the rows of a search
-unfoldable pub refusal_in : Outcome → Verdict
-refusal_in (Outcome.Refused x) = Refused x
-refusal_in (Done e) = Accepted
-refusal_in (Paused e) = Accepted
+unfoldable pub refusal_in : Result Outcome Refusal → Verdict
+refusal_in (Err x) = Err x
+refusal_in (Ok o) = Ok tt
 
 module _ (m : List ℤ) (st : List ℕ) (budget : ℕ) where
   abbrev row8 : Verdict
   row8 = refusal_in (told (search_result (plate m) budget).outcome (search_result (plate m) budget).examinations)
 
   eight_at : (i : ℕ) → (search_result (plate m) budget).outcome ≡ answer8 i → At row8 8 i
-  unfolding told refusal_in
-  eight_at i e = ap (λ (o : any.Outcome). refusal_in (told o (search_result (plate m) budget).examinations)) e
+  unfolding told refusal_in shown
+  eight_at i e = (Uncrossed i, ap (λ (o : any.Outcome). refusal_in (told o (search_result (plate m) budget).examinations)) e, refl)
 
   at_eight :
       (R : ℕ → ℕ → Type 0) → ((i : ℕ) → (search_result (plate m) budget).outcome ≡ answer8 i → R 8 i) → (n d : ℕ) → At row8 n d → R n d
-  unfolding told refusal_in
+  unfolding told refusal_in shown
   at_eight R f n d e = go (search_result (plate m) budget).outcome refl e
     where
       go :
           (o : any.Outcome) → (search_result (plate m) budget).outcome ≡ o →
           At (refusal_in (told o (search_result (plate m) budget).examinations)) n d → R n d
-      go done q e = not_accepted e
-      go paused q e = not_accepted e
+      go done q e = not_accepted e.1
+      go paused q e = not_accepted e.1
       go (answer8 i) q e = from_refused R (f i q) e
 
   in_outcome : (v : Verdict) → or_else v row8 ≡ refusal_in (outcome_after v (search_result (plate m) budget))
   unfolding or_else outcome_after refusal_in
-  in_outcome (Refused x) = refl
-  in_outcome Accepted = refl
+  in_outcome (Err x) = refl
+  in_outcome (Ok t) = refl
 
   pub search_settled : Settled (SearchRow m st budget) (refusal_in (outcome_of m st budget))
   unfolding outcome_of
@@ -220,7 +224,7 @@ module _ (m : List ℤ) (st : List ℕ) (budget : ℕ) where
       (early_settled m st) (settled_at row8)))
     where
       row_of : (n d : ℕ) → Early m st n d ⊎ At row8 n d → SearchRow m st budget n d
-      row_of n d (inl (inl v)) = list (record { number = n; detail = d }) v
+      row_of n d (inl (inl v)) = list (shows n d) v
       row_of n d (inl (inr v)) = at_buffer m st (SearchRow m st budget) buffer n d v
       row_of n d (inr v) = at_eight (SearchRow m st budget) uncrossed n d v
 

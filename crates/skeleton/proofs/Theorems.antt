@@ -18,9 +18,9 @@ use Prim.Native.Nat.{ℕ, ◌≤◌, ◌<◌}
 use native.Mathlib.Omega.{arith}
 use lib.ListN.{get_or, length, replicate}
 use lib.IntN.{ℤ}
+use Rattle.std.specs.Prelude.{Option, Some, Result, Ok, Err}
 use Rattle.refusals.specs.declared.Refusal.{Refusal}
-use Rattle.refusals.specs.declared.Verdict.{Verdict}
-use Rattle.refusals.specs.declared.Verdict.TheVariants.{Accepted, Refused}
+use Rattle.refusals.specs.Check.{Shown, Verdict}
 use Rattle.plane.specs.Marks.{IsMark}
 use Rattle.pairs.specs.Pairs.{pair_number}
 use Rattle.plane.specs.Hull.{hull_edge, inner_edge}
@@ -28,10 +28,9 @@ use Rattle.plane.proofs.Laws.Hull.{hull_uncrossed}
 use Rattle.striking.specs.Search.{answer8, search_result}
 use Rattle.striking.proofs.Tests.{same_test}
 use Rattle.striking.proofs.Theorems as striking
-use Rattle.skeleton.specs.declared.request.Answer.{Answer}
+use Rattle.skeleton.specs.declared.request.Reply.{Reply}
 use Rattle.skeleton.specs.declared.search.Outcome.TheVariants.{Done, Paused}
 use Rattle.certificates.specs.Certificate.{crossing, IsCertificate, HasCertificate, IsFirst, fits, first_certificate}
-use Rattle.certificates.specs.declared.certificate.Pick.TheVariants.{Nothing, Apexes}
 use Rattle.certificates.specs.Plate.{plate}
 use Rattle.certificates.specs.Rule9.{IsPair, Kept, LocallyMinimal, Largest, ample}
 use Rattle.skeleton.specs.Answers.{search_refusal, answer_of, outcome_after, outcome_of, bytes_after, status_after, byte_after, remaining_edges}
@@ -56,11 +55,11 @@ module _ (m : List ℤ) (K : ℕ → ℕ → Bool) (p q : ℕ) where
   fits_exactly r s r-in s-in = (fits_certificate m K p q r s r-in s-in, certificate_fits m K p q)
 
   -- Rule 8: what is picked is "that with the smallest r, then the smallest s".
-  pub first_exactly : (r s : ℕ) → (first_certificate m K p q ≡ Apexes r s) ↔ IsFirst m K p q r s
+  pub first_exactly : (r s : ℕ) → (first_certificate m K p q ≡ Some (record { r = r; s = s })) ↔ IsFirst m K p q r s
   first_exactly r s = (found_first m K p q, first_found)
 
-  -- Nothing is picked exactly if there is no certificate.
-  pub nothing_exactly : (first_certificate m K p q ≡ Nothing) ↔ (HasCertificate m K p q → ⊥)
+  -- None is given exactly if there is no certificate.
+  pub nothing_exactly : (first_certificate m K p q ≡ Option.None) ↔ (HasCertificate m K p q → ⊥)
   nothing_exactly = (nothing_none m K p q, none_nothing m K p q)
 
 -- ---- rule 9
@@ -77,7 +76,7 @@ one_largest {m} {K} {K'} l l' a b p =
 module _ (m : List ℤ) (st : List ℕ) (a b : ℕ) where
   -- "Given exactly when"; "The lowest number that applies is given", with its detail. A request is refused exactly if a row applies.
   pub request_refused_exactly :
-      (x : Refusal) → 0 < x.number → (shown_request m st a b ≡ x) ↔ Lowest (RequestRow m st a b) x
+      (x : Shown) → 0 < x.number → (shown_request m st a b ≡ x) ↔ Lowest (RequestRow m st a b) x
   request_refused_exactly = shown_lowest m st a b
 
   pub request_unrefused_exactly : ((shown_request m st a b).number ≡ 0) ↔ None (RequestRow m st a b)
@@ -85,7 +84,7 @@ module _ (m : List ℤ) (st : List ℕ) (a b : ℕ) where
 
   -- Each answer is given exactly when the table and rule 8 say: the lowest row that applies, or "hull, not empty, the first
   -- certificate, or none; none exactly if there is none".
-  pub answer_exactly : (x : Answer) → (answer_of m st a b ≡ x) ↔ IsAnswer m st a b x
+  pub answer_exactly : (x : Result Reply Refusal) → (answer_of m st a b ≡ x) ↔ IsAnswer m st a b x
   answer_exactly x = (λ e. subst (IsAnswer m st a b) e (the_answer m st a b), is_answer m st a b)
 
 -- "Beyond answer 6, the byte of (a, b) itself plays no part."
@@ -100,7 +99,7 @@ module _ (m : List ℤ) (st : List ℕ) (budget : ℕ) where
   -- ---- the table
 
   -- "Given exactly when"; "The lowest number that applies is given", with its detail.
-  pub refused_exactly : (x : Refusal) → 0 < x.number → (shown_search m st budget ≡ x) ↔ Lowest (SearchRow m st budget) x
+  pub refused_exactly : (x : Shown) → 0 < x.number → (shown_search m st budget ≡ x) ↔ Lowest (SearchRow m st budget) x
   refused_exactly = search_refused m st budget
 
   -- No number is given exactly if no row applies.
@@ -115,20 +114,20 @@ module _ (m : List ℤ) (st : List ℕ) (budget : ℕ) where
   status-length = go (search_refusal m st) refl
     where
       go : (v : Verdict) → search_refusal m st ≡ v → length (status_after m st budget) ≡ length st
-      go (Refused x) e = ap length (status_refused m st budget x e)
-      go Accepted e =
+      go (Err x) e = ap length (status_refused m st budget x e)
+      go (Ok t) e =
           ap length (status_accepted m st budget e) ∙ striking.status-length (plate m) (lawful m) budget ∙
           sym (accepted_long m st e)
 
   -- "After 1 to 7 the status buffer holds what it held before."
   pub refused_keeps : 0 < (shown_search m st budget).number → (shown_search m st budget).number ≤ 7 → status_after m st budget ≡ st
   refused_keeps p l =
-      ⊎_elim (λ r. status_refused m st budget _ r) (λ r. let n = r.1 in absurd (let z : ⊥ = omega arith in z))
+      ⊎_elim (λ r. status_refused m st budget _ r.1) (λ r. let n = r.1 in absurd (let z : ⊥ = omega arith in z))
       (shown_reason m st budget p)
 
   -- Of an answer 8:
   module _ (n : (shown_search m st budget).number ≡ 8) where
-    search8 : (search_refusal m st ≡ Accepted) × ((search_result (plate m) budget).outcome ≡ answer8 (shown_search m st budget).detail)
+    search8 : (search_refusal m st ≡ Ok tt) × ((search_result (plate m) budget).outcome ≡ answer8 (shown_search m st budget).detail)
     search8 =
         ⊎_elim (λ r. let l = refused_early m st _ r in absurd (let z : ⊥ = omega arith in z)) (λ r. (r.0, r.2))
         (shown_reason m st budget (omega arith))
@@ -180,7 +179,7 @@ module _ (m : List ℤ) (st : List ℕ) (budget : ℕ) where
   -- ---- demand 2
 
   -- Of a search that is done:
-  module _ (e : ℕ) (q : outcome_of m st budget ≡ Done e) where
+  module _ (e : ℕ) (q : outcome_of m st budget ≡ Ok (Done e)) where
     -- "At done, the remaining set is the largest set that holds the hull edges and in which each inner edge has a certificate."
     pub done_largest : Largest m (remaining_edges m budget)
     done_largest = largest_pairs (striking.done_largest (plate m) (lawful m) budget (done_search m st budget e q).1)
@@ -227,7 +226,7 @@ module _ (m : List ℤ) (st : List ℕ) (budget : ℕ) where
   -- ---- demand 3
 
   -- Where the search was made, under whatever budget,
-  module _ (made : search_refusal m st ≡ Accepted) (K : ℕ → ℕ → Bool) (t : LocallyMinimal m K) (a b : ℕ) (p : IsPair m a b) where
+  module _ (made : search_refusal m st ≡ Ok tt) (K : ℕ → ℕ → Bool) (t : LocallyMinimal m K) (a b : ℕ) (p : IsPair m a b) where
     -- a 2 is in every locally minimal triangulation
     pub certain_in_every : byte_after m st budget a b ≡ 2 → K a b ≡ true
     certain_in_every h =
@@ -244,7 +243,7 @@ module _ (m : List ℤ) (st : List ℕ) (budget : ℕ) where
 
   -- "With m inner edges a search ends within m(m+1)/2 examinations"; and E, done or paused, is within the budget.
   pub few_examinations :
-      (e : ℕ) → (outcome_of m st budget ≡ Done e) ⊎ (outcome_of m st budget ≡ Paused e) → (e ≤ ample m) × (e ≤ budget)
+      (e : ℕ) → (outcome_of m st budget ≡ Ok (Done e)) ⊎ (outcome_of m st budget ≡ Ok (Paused e)) → (e ≤ ample m) × (e ≤ budget)
   few_examinations e o =
       let i = ⊎_elim (λ q. (done_search m st budget e q).2) (λ q. (paused_search m st budget e q).2) o in
       let l = striking.few_examinations (plate m) (lawful m) budget in
@@ -253,14 +252,14 @@ module _ (m : List ℤ) (st : List ℕ) (budget : ℕ) where
       (omega arith, omega arith)
 
   -- A budget of at least m(m+1)/2 never pauses.
-  pub never_pauses : ample m ≤ budget → (e : ℕ) → outcome_of m st budget ≡ Paused e → ⊥
+  pub never_pauses : ample m ≤ budget → (e : ℕ) → outcome_of m st budget ≡ Ok (Paused e) → ⊥
   never_pauses l e q =
       striking.never_pauses (plate m) (lawful m) budget (subst (λ (k : ℕ). k ≤ budget) (ample_is m) l)
       (paused_search m st budget e q).1
 
   -- "The search pauses when an examination is due and the budget is spent": E is the budget, and some inner edge remains.
   pub paused_spent :
-      (e : ℕ) → outcome_of m st budget ≡ Paused e →
+      (e : ℕ) → outcome_of m st budget ≡ Ok (Paused e) →
       (e ≡ budget) × ((a : ℕ) × (b : ℕ) × Kept m (remaining_edges m budget) a b × (inner_edge m a b ≡ true))
   paused_spent e q =
       let d = paused_search m st budget e q in
@@ -279,14 +278,14 @@ module _ (m : List ℤ) (st : List ℕ) (budget budget' : ℕ) (l : budget ≤ b
 
     -- where the list or the buffer is refused, both leave the byte that was there
     by_verdict :
-        (x : ℕ) → (search_refusal m st ≡ Accepted → byte_after m st budget a b ≡ x → byte_after m st budget' a b ≡ x) →
+        (x : ℕ) → (search_refusal m st ≡ Ok tt → byte_after m st budget a b ≡ x → byte_after m st budget' a b ≡ x) →
         byte_after m st budget a b ≡ x → byte_after m st budget' a b ≡ x
     by_verdict x made h = go (search_refusal m st) refl
       where
         go : (v : Verdict) → search_refusal m st ≡ v → byte_after m st budget' a b ≡ x
-        go (Refused y) e =
+        go (Err y) e =
             ap (λ (s : List ℕ). get_or s i 0) (status_refused m st budget' y e ∙ sym (status_refused m st budget y e)) ∙ h
-        go Accepted e = made e h
+        go (Ok t) e = made e h
 
     -- every 2
     pub certain_stays : byte_after m st budget a b ≡ 2 → byte_after m st budget' a b ≡ 2
@@ -306,8 +305,8 @@ module _ (m : List ℤ) (st : List ℕ) (budget budget' : ℕ) (l : budget ≤ b
 
   -- A search that was done is done under every larger budget, after as many examinations and with the same bytes.
   pub done_stays :
-      (e : ℕ) → outcome_of m st budget ≡ Done e →
-      (outcome_of m st budget' ≡ Done e) × (status_after m st budget' ≡ status_after m st budget)
+      (e : ℕ) → outcome_of m st budget ≡ Ok (Done e) →
+      (outcome_of m st budget' ≡ Ok (Done e)) × (status_after m st budget' ≡ status_after m st budget)
   unfolding outcome_of status_after
   done_stays e q =
       let d = (done_search m st budget e q).1 in

@@ -41,12 +41,8 @@ pub digits_more : (n : ℕ) → 10 ≤ n → digits n ≡ digits (n / 10) ++ (di
 unfolding digits
 digits_more n h = in_more n n h ∙ ap (λ (x : List ℕ). x ++ (digit (n % 10) ∷ [])) (enough n (suc (n / 10)) (n / 10) (omega arith) (le_refl _))
 
--- the same, with the byte as it comes from a function
-pub spelt_one : (n : ℕ) {byte : ℕ} → n < 10 → byte ≡ digit n → byte ∷ [] ≡ digits n
-spelt_one n h e = ap (λ (x : ℕ). x ∷ []) e ∙ sym (digits_one n h)
-
-pub spelt_more : (n : ℕ) {byte : ℕ} → 10 ≤ n → byte ≡ digit (n % 10) → digits (n / 10) ++ (byte ∷ []) ≡ digits n
-spelt_more n h e = ap (λ (x : ℕ). digits (n / 10) ++ (x ∷ [])) e ∙ sym (digits_more n h)
+-- what the goals of `Page::digits` need
+pub ruleset spelt = (digits_one, digits_more)
 
 -- a number below the power of ten k + 1 has at most k + 1 digits
 pub digits-length : (k n : ℕ) → n < 10 ^ suc k → length (digits n) ≤ suc k

@@ -1,6 +1,6 @@
--- Laws of the lines: a line of two or three fields as its fields, each with the byte that ends it; the outcome's line by its case, and a
--- pair's by its status byte; one pair's line after those before it. Assumes nothing.
-use mathlib.Core.Path.{◌≡◌, refl, sym, ap, ◌∙◌}
+-- Laws of the lines: a line of two or three fields as its fields, each with the byte that ends it; the refusal's line, the outcome's by its
+-- case, and a pair's by its status byte; one pair's line after those before it. Assumes nothing.
+use mathlib.Core.Path.{◌≡◌, refl, ◌∙◌}
 use mathlib.Core.Bool.{Bool, true, false}
 use mathlib.Core.List.{List, [], ◌∷◌, ◌++◌, append_assoc}
 use Prim.Native.Nat.{ℕ, ◌+◌}
@@ -10,25 +10,19 @@ use lib.ListN.{get_or}
 use Rattle.pairs.specs.Pairs.{pair_at}
 use Rattle.plane.proofs.Laws.Tells.{cond_yes, cond_no}
 use Rattle.writing.specs.Digits.{digits}
-use Rattle.writing.specs.Listing.{done_word, paused_word, refused_word, possible_word, certain_word, line, done_text, paused_text, outcome_text, refused_text, pair_text, pair_texts, pairs_text, listing_text}
+use Rattle.writing.specs.Listing.{done_word, paused_word, refused_word, possible_word, certain_word, line, done_text, paused_text, outcome_text, refused_text, pair_text, pair_texts}
 
--- a field and the byte that ends it
-abbrev pub ended : List ℕ → ℕ → List ℕ
-ended f end = f ++ (end ∷ [])
-
-pub line_two : (f g : List ℕ) → line (f ∷ g ∷ []) ≡ ended f 32 ++ ended g 10
+pub line_two : (f g : List ℕ) → line (f ∷ g ∷ []) ≡ f ++ (32 ∷ []) ++ g ++ (10 ∷ [])
 unfolding line
-line_two f g = sym (append_assoc f (32 ∷ []) (g ++ (10 ∷ [])))
+line_two f g = simp append_assoc
 
-pub line_three : (f g h : List ℕ) → line (f ∷ g ∷ h ∷ []) ≡ ended f 32 ++ (ended g 32 ++ ended h 10)
+pub line_three : (f g h : List ℕ) → line (f ∷ g ∷ h ∷ []) ≡ f ++ (32 ∷ []) ++ g ++ (32 ∷ []) ++ h ++ (10 ∷ [])
 unfolding line
-line_three f g h =
-    ap (λ (l : List ℕ). f ++ (32 ∷ l)) (sym (append_assoc g (32 ∷ []) (h ++ (10 ∷ []))))
-    ∙ sym (append_assoc f (32 ∷ []) (ended g 32 ++ ended h 10))
+line_three f g h = simp append_assoc
 
-pub refused_is : (i d : ℕ) → refused_text i d ≡ ended refused_word 32 ++ (ended (digits i) 32 ++ ended (digits d) 10)
+pub refused_is : (i d : ℕ) → refused_text i d ≡ line (refused_word ∷ digits i ∷ digits d ∷ [])
 unfolding refused_text
-refused_is i d = line_three refused_word (digits i) (digits d)
+refused_is i d = refl
 
 pub done_is : (done : Bool) (e : ℕ) → done ≡ true → outcome_text done e ≡ line (done_word ∷ digits e ∷ [])
 unfolding outcome_text done_text
@@ -50,10 +44,6 @@ pub pair_none : (a b s : ℕ) → (s ≡ 1 → ⊥) → (s ≡ 2 → ⊥) → pa
 unfolding pair_text
 pair_none a b s h k = cond_no _ _ (ne_eqb s 1 h) ∙ cond_no _ _ (ne_eqb s 2 k)
 
-pub listing_is : (done : Bool) (e : ℕ) (st : List ℕ) (n : ℕ) → listing_text done e st n ≡ outcome_text done e ++ pairs_text st n
-unfolding listing_text
-listing_is done e st n = refl
-
 pub pairs_none : (st : List ℕ) → pair_texts st 0 ≡ []
 unfolding pair_texts
 pairs_none st = refl
@@ -61,3 +51,5 @@ pairs_none st = refl
 pub pairs_more : (st : List ℕ) (k : ℕ) → pair_texts st (k + 1) ≡ pair_texts st k ++ pair_text (pair_at k).a (pair_at k).b (get_or st k 0)
 unfolding pair_texts
 pairs_more st k = rw (add-one k) refl
+
+pub ruleset lines = (line_two, line_three, refused_is, done_is, paused_is, pair_possible, pair_certain, pair_none, pairs_none)

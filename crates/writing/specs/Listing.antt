@@ -1,18 +1,16 @@
 -- The text that the listing program writes, as bytes. "Output: "done E" or "paused E", E the examinations; then for each pair not
 -- impossible, in pair order, a, b and its status word. A refusal prints one line: "refused", number, detail. Fields are parted by one
 -- space and every line ends in a line feed."
---   line fields                 one line of these fields
---   done_text e                 the line "done E"
---   paused_text e               the line "paused E"
---   outcome_text done e         whichever of the two
---   refused_text i d            the line "refused", number i, detail d
---   pair_text a b s             the line of the pair (a, b) with status byte s: 1 possible, 2 certain; no line for any other byte
---   pair_texts st k             the lines of the first k pairs in pair order, whose status bytes are the first k of st
---   pairs_text st n             the lines of all pairs of n marks
---   listing_text done e st n    the whole listing
---   Room out at text            out has room for the text from at on
---   Puts out at text out' next  out' is out with the text from at on, and next is the place after the text
-use Rattle.std.specs.Prelude.{◌≡◌, Bool, cond, List, [], ◌∷◌, ◌++◌, ℕ, zero, suc, ◌+◌, ◌≤◌, eqb, length, take, drop, get_or}
+--   line fields               one line of these fields
+--   done_text e               the line "done E"
+--   paused_text e             the line "paused E"
+--   outcome_text done e       whichever of the two
+--   refused_text i d          the line "refused", number i, detail d
+--   pair_text a b s           the line of the pair (a, b) with status byte s: 1 possible, 2 certain; no line for any other byte
+--   pair_texts st k           the lines of the first k pairs in pair order, whose status bytes are the first k of st
+--   pairs_text st n           the lines of all pairs of n marks
+--   listing_text done e st n  the whole listing
+use Rattle.std.specs.Prelude.{Bool, cond, List, [], ◌∷◌, ◌++◌, ℕ, zero, suc, eqb, get_or}
 use Rattle.pairs.specs.Pairs.{pair_count, pair_at}
 use Rattle.writing.specs.Digits.{digits}
 
@@ -72,11 +70,3 @@ pairs_text st n = pair_texts st (pair_count n)
 
 unfoldable pub listing_text : Bool → ℕ → List ℕ → ℕ → List ℕ
 listing_text done e st n = outcome_text done e ++ pairs_text st n
-
--- ---- writing into a buffer
-pub record Room (out : List ℕ) (at : ℕ) (text : List ℕ) : Type 0 where
-  pub fits : at + length text ≤ length out
-
-pub record Puts (out : List ℕ) (at : ℕ) (text : List ℕ) (out' : List ℕ) (next : ℕ) : Type 0 where
-  pub filled : out' ≡ take at out ++ text ++ drop (at + length text) out
-  pub reached : next ≡ at + length text

@@ -5,8 +5,8 @@ use Rattle.driver.proofs.skeleton_certificate.Goals as goal
 pub returns : goal.returns
 returns c =
     let h =
-    reaches_as _ (reply_of _ _ _ _ c.request-x.ensures.answered c.reply_number.ensures.number
-    c.reply_first.ensures.first c.certificate_numbers-numbers.ensures.numbers) (
+    reaches_as _ (reply_of _ _ _ _ c.request-answer.ensures.answered c.status_number.ensures.number
+    c.reply_first.ensures.first c.certificate_shown.ensures.certificate c.certificate_numbers-numbers.ensures.numbers) (
       c.tell.ensures.returned,
       c.tell.ensures.written,
     ) in

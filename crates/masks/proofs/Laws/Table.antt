@@ -4,13 +4,13 @@ use mathlib.Core.Path.{◌≡◌, refl, sym, ap, ap₂, ◌∙◌, subst}
 use mathlib.Core.Logic.{◌⊎◌, inl, inr, ⊎_elim}
 use mathlib.Core.Bool.{Bool, true, false, cond}
 use mathlib.Core.List.{List}
-use Prim.Native.Nat.{ℕ, ◌+◌, ◌*◌, ◌/◌, ◌%◌, ◌≤◌, ◌<◌}
+use Prim.Native.Nat.{ℕ, ◌+◌, ◌/◌, ◌%◌, ◌≤◌, ◌<◌}
 use native.Mathlib.Nat.{eq-or-lt_of_le}
 use native.Mathlib.Omega.{arith}
 use borrow.Author.Tests.{lt-ltb, le-ltb}
 use lib.Dec.{ltb}
 use lib.IntN.{ℤ}
-use lib.ListN.{length, get_or, set, replicate, length-set, length-replicate, get_or-replicate}
+use lib.ListN.{length, get_or, replicate, length-set, length-replicate, get_or-replicate}
 use lib.Seq.{get_or-set_same, get_or-set_other, ext_get_or}
 use Rattle.plane.specs.Marks.{count, mark}
 use Rattle.plane.specs.Side.{left_of}
@@ -28,7 +28,7 @@ use Rattle.sets.proofs.Laws.Sets.{set_words}
 use Rattle.sides.proofs.Laws.{left_past_p, left_past_q}
 
 -- ---- where no mark is left
-empty-set : (f : ℕ → Bool) → ((i : ℕ) → f i ≡ false) → set_of f ≡ empty_set
+pub empty-set : (f : ℕ → Bool) → ((i : ℕ) → f i ≡ false) → set_of f ≡ empty_set
 unfolding set_of
 empty-set f h = set_words (word_empty f 0 64 (λ i a b. h i)) (word_empty f 64 64 (λ i a b. h i))
 
@@ -55,9 +55,6 @@ module _ (m : List ℤ) (p q : ℕ) where
           ∙ ap (λ (b : Bool). cond (is_mark m p) b false) (and_no (is_mark m q)) ∙ and_no (is_mark m p)
 
 -- ---- places
-odd_even : (x y : ℕ) → x * 2 ≡ y * 2 + 1 → ⊥
-odd_even x y e = omega arith
-
 place_row : (a b p q : ℕ) → b < 128 → q < 128 → place a b ≡ place p q → a ≡ p
 place_row a b p q hb hq e =
     ⊎_elim
@@ -66,40 +63,27 @@ place_row a b p q hb hq e =
     (split a p)
 
 -- ---- one entry written
-module _ (t : List ℕ) (p q : ℕ) (s : Set) where
+module _ (t : List Set) (p q : ℕ) (s : Set) where
   pub put_size : length (put_entry t p q s) ≡ length t
-  put_size = length-set (set t (place p q) s.low) (place p q + 1) s.high ∙ length-set t (place p q) s.low
+  put_size = length-set t (place p q) s
 
-  put_other : (k : ℕ) → (k ≡ place p q → ⊥) → (k ≡ place p q + 1 → ⊥) → get_or (put_entry t p q s) k 0 ≡ get_or t k 0
-  put_other k d e = get_or-set_other (set t (place p q) s.low) (place p q + 1) k s.high 0 e ∙ get_or-set_other t (place p q) k s.low 0 d
-
-  pub put_here : length t ≡ 32768 → p < 128 → q < 128 → entry (put_entry t p q s) p q ≡ s
+  pub put_here : length t ≡ 16384 → p < 128 → q < 128 → entry (put_entry t p q s) p q ≡ s
   unfolding entry
-  put_here z hp hq =
-      set_words
-      (get_or-set_other (set t (place p q) s.low) (place p q + 1) (place p q) s.high 0 (λ e. omega arith)
-      ∙ get_or-set_same t (place p q) s.low 0 (omega arith))
-      (get_or-set_same (set t (place p q) s.low) (place p q + 1) s.high 0 (omega (arith, length-set t (place p q) s.low)))
+  put_here z hp hq = get_or-set_same t (place p q) s empty_set (omega arith)
 
   pub put_elsewhere : (a b : ℕ) → b < 128 → q < 128 → (a ≡ p → b ≡ q → ⊥) → entry (put_entry t p q s) a b ≡ entry t a b
   unfolding entry
   put_elsewhere a b hb hq d =
-      set_words
-      (put_other (place a b) (λ e. here e) (λ e. odd_even (a * 128 + b) (p * 128 + q) (omega arith)))
-      (put_other (place a b + 1) (λ e. odd_even (p * 128 + q) (a * 128 + b) (omega arith)) (λ e. here (omega arith)))
-    where
-      here : place a b ≡ place p q → ⊥
-      here e = let f = place_row a b p q hb hq e in d f (omega arith)
+      get_or-set_other t (place p q) (place a b) s empty_set (λ e. let f = place_row a b p q hb hq e in d f (omega arith))
 
 -- ---- the table is filled
-pub fill_start : {m : List ℤ} (n : ℕ) → n ≡ 32768 → Filled m (replicate n 0) 0
+pub fill_start : {m : List ℤ} (n : ℕ) → n ≡ 16384 → Filled m (replicate n empty_set) 0
 unfolding entry
 fill_start {m} n e =
     record {
-      size = length-replicate n 0 ∙ e;
+      size = length-replicate n empty_set ∙ e;
       each = λ p q hp hq.
-          set_words (get_or-replicate n (place p q) 0 0 (omega arith)) (get_or-replicate n (place p q + 1) 0 0 (omega arith))
-          ∙ sym (cond_no _ _ (le-ltb (pair_of p q) 0 (omega arith)));
+          get_or-replicate n (place p q) empty_set empty_set (omega arith) ∙ sym (cond_no _ _ (le-ltb (pair_of p q) 0 (omega arith)));
     }
 
 -- another pair than (a, b): its number is before that of (a, b) exactly if it is not after
@@ -147,11 +131,11 @@ is? p q a b = ⊎_elim (λ l. ⊎_elim (λ e. second e) (λ u. off (λ e f. omeg
 
 -- one pair more, in both orders
 pub fill_next :
-    {m : List ℤ} {t : List ℕ} {s s' : Set} (a b : ℕ) → a < b → b < 128 → Filled m t (pair_number a b) → s ≡ left_set m a b → s' ≡ left_set m b a →
+    {m : List ℤ} {t : List Set} {s s' : Set} (a b : ℕ) → a < b → b < 128 → Filled m t (pair_number a b) → s ≡ left_set m a b → s' ≡ left_set m b a →
     Filled m (put_entry (put_entry t a b s) b a s') (pair_number a b + 1)
 fill_next {m} {t} {s} {s'} a b h hb f e e' = record { size = put_size (put_entry t a b s) b a s' ∙ size₁; each = λ p q hp hq. at p q hp hq (is? p q a b) (is? p q b a) }
   where
-    size₁ : length (put_entry t a b s) ≡ 32768
+    size₁ : length (put_entry t a b s) ≡ 16384
     size₁ = put_size t a b s ∙ f.size
 
     now_stored : (p q : ℕ) → pair_of p q ≡ pair_number a b → left_set m p q ≡ cond (ltb (pair_of p q) (pair_number a b + 1)) (left_set m p q) empty_set
@@ -173,7 +157,7 @@ fill_next {m} {t} {s} {s'} a b h hb f e e' = record { size = put_size (put_entry
         ∙ f.each p q hp hq ∙ next_same m a b p q h d d'
 
 -- all pairs
-pub fill_end : {m : List ℤ} {t : List ℕ} → Filled m t (pair_count (count m)) → Table m t
+pub fill_end : {m : List ℤ} {t : List Set} → Filled m t (pair_count (count m)) → Table m t
 fill_end {m} {t} f = record { size = f.size; each = λ p q hp hq. f.each p q hp hq ∙ at p q (split p q) (split (count m) p) (split (count m) q) }
   where
     none : (p q : ℕ) → left_set m p q ≡ empty_set → cond (ltb (pair_of p q) (pair_count (count m))) (left_set m p q) empty_set ≡ left_set m p q
@@ -194,37 +178,22 @@ fill_end {m} {t} f = record { size = f.size; each = λ p q hp hq. f.each p q hp 
     at p q (inl l) (inr hp) (inr hq) = ⊎_elim (λ e. none p q (left_none_same m p q e)) (λ u. all p q (λ e. omega arith) hp hq) (eq-or-lt_of_le l)
     at p q (inr u) (inr hp) (inr hq) = all p q (λ e. omega arith) hp hq
 
--- ---- the table is determined
-module _ (p q : ℕ) (t t' : List ℕ) (e : entry t p q ≡ entry t' p q) where
-  low_of : get_or t (place p q) 0 ≡ get_or t' (place p q) 0
-  unfolding entry
-  low_of = ap (λ (s : Set). s.low) e
-
-  high_of : get_or t (place p q + 1) 0 ≡ get_or t' (place p q + 1) 0
-  unfolding entry
-  high_of = ap (λ (s : Set). s.high) e
-
--- a table is its entries
+-- ---- the table is determined: a table is its entries
 entries_unique :
-    (t t' : List ℕ) → length t ≡ 32768 → length t' ≡ 32768 →
+    (t t' : List Set) → length t ≡ 16384 → length t' ≡ 16384 →
     ((p q : ℕ) → p < 128 → q < 128 → entry t p q ≡ entry t' p q) → t ≡ t'
-entries_unique t t' f g pair = ext_get_or 0 t t' (f ∙ sym g) (λ i h. at i (omega (arith, f)))
+unfolding entry
+entries_unique t t' f g pair = ext_get_or empty_set t t' (f ∙ sym g) (λ i h. at i (omega (arith, f)))
   where
-    at : (i : ℕ) → i < 32768 → get_or t i 0 ≡ get_or t' i 0
-    at i h = ⊎_elim (λ l. even (omega arith)) (λ l. odd (omega arith)) (split (i % 2) 0)
-      where
-        even : i % 2 ≡ 0 → get_or t i 0 ≡ get_or t' i 0
-        even z = let e : place (i / 256) (i % 256 / 2) ≡ i = omega arith in
-            subst (λ (k : ℕ). get_or t k 0 ≡ get_or t' k 0) e (low_of (i / 256) (i % 256 / 2) t t' (pair (i / 256) (i % 256 / 2) (omega arith) (omega arith)))
+    at : (i : ℕ) → i < 16384 → get_or t i empty_set ≡ get_or t' i empty_set
+    at i h =
+        let e : place (i / 128) (i % 128) ≡ i = omega arith in
+        subst (λ (k : ℕ). get_or t k empty_set ≡ get_or t' k empty_set) e (pair (i / 128) (i % 128) (omega arith) (omega arith))
 
-        odd : i % 2 ≡ 1 → get_or t i 0 ≡ get_or t' i 0
-        odd z = let e : place (i / 256) (i % 256 / 2) + 1 ≡ i = omega arith in
-            subst (λ (k : ℕ). get_or t k 0 ≡ get_or t' k 0) e (high_of (i / 256) (i % 256 / 2) t t' (pair (i / 256) (i % 256 / 2) (omega arith) (omega arith)))
-
-pub table_unique : {m : List ℤ} {t t' : List ℕ} → Table m t → Table m t' → t ≡ t'
+pub table_unique : {m : List ℤ} {t t' : List Set} → Table m t → Table m t' → t ≡ t'
 table_unique {m} {t} {t'} f g =
     entries_unique t t' f.size g.size (λ p q hp hq. f.each p q hp hq ∙ sym (g.each p q hp hq))
 
-pub filled_unique : {m : List ℤ} {t t' : List ℕ} {i : ℕ} → Filled m t i → Filled m t' i → t ≡ t'
+pub filled_unique : {m : List ℤ} {t t' : List Set} {i : ℕ} → Filled m t i → Filled m t' i → t ≡ t'
 filled_unique {m} {t} {t'} f g =
     entries_unique t t' f.size g.size (λ p q hp hq. f.each p q hp hq ∙ sym (g.each p q hp hq))

@@ -8,7 +8,14 @@ use native.Mathlib.Numerals.{add-one}
 use native.Mathlib.Omega.{arith}
 use borrow.Author.Tests.{lt-ltb, le-ltb}
 use lib.Dec.{T}
+use lib.ListN.{length}
+use Rattle.std.specs.Bool.{MatchBool}
+use Rattle.std.specs.List.{range_with_len, AllWithin, HoldsAt}
+use Rattle.std.proofs.lemmas.List.FromFn.{length-range_with_len, get_or-range_with_len}
 use Rattle.plane.specs.Numbers.{all_to, first_so_far, first_to}
+
+from_zero : (k : ℕ) → 0 + k ≡ k
+from_zero k = omega arith
 
 module _ (f : ℕ → Bool) where
   pub all_none : all_to 0 f ≡ true
@@ -24,6 +31,11 @@ module _ (f : ℕ → Bool) where
 
   pub all_end : (i n : ℕ) → i ≡ n → all_to i f ≡ true → true ≡ all_to n f
   all_end i n e h = sym (all_upto e h)
+
+  every : (n : ℕ) → ((k : ℕ) → k < n → f k ≡ true) → all_to n f ≡ true
+  unfolding all_to
+  every zero h = refl
+  every (suc n) h = ap (λ (t : Bool). cond t (f n) false) (every n (λ k l. h k (omega arith))) ∙ h n (le_refl (suc n))
 
   pub all_no : (i n : ℕ) → i < n → f i ≡ false → all_to n f ≡ false
   unfolding all_to
@@ -47,6 +59,14 @@ module _ (f : ℕ → Bool) where
       go true true = refl
       go true false = refl
       go false y = refl
+
+  -- what a chain over a range tells that asks of every number
+  pub all_by_cases : (n : ℕ) (r : Bool) → MatchBool r (AllWithin (λ k. f k ≡ true) (range_with_len 0 n) 0 (length (range_with_len 0 n))) ((k : ℕ) × (k < length (range_with_len 0 n)) × HoldsAt (λ k. f k ≡ false) (range_with_len 0 n) k) → r ≡ all_to n f
+  all_by_cases n true h =
+      sym (every n (λ k l. subst (λ (j : ℕ). f j ≡ true) (get_or-range_with_len 0 n k 0 l ∙ from_zero k) (h k 0 (omega arith) (rw (length-range_with_len 0 n) l))))
+  all_by_cases n false h =
+      let l : h.0 < n = subst (λ (j : ℕ). h.0 < j) (length-range_with_len 0 n) h.1 in
+      sym (all_no h.0 n l (subst (λ (j : ℕ). f j ≡ false) (get_or-range_with_len 0 n h.0 0 l ∙ from_zero h.0) (h.2 0)))
 
   -- where not every number has f, one lacks it
   pub all_miss : (n : ℕ) → all_to n f ≡ false → (k : ℕ) × (k < n) × (f k ≡ false)

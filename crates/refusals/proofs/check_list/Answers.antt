@@ -1,10 +1,12 @@
 -- `refusals::check_list` meets its contract: it asks in the order of the table. Assumes nothing.
-use mathlib.Core.Path.{sym, ◌∙◌, ap, subst, subst₂}
+use mathlib.Core.Path.{sym, ◌∙◌, ap, subst}
 use Prim.Native.Nat.{ℕ, ◌≤◌, ◌<◌}
 use borrow.Author.Tests.{eq-eqb, ne_eqb, lt-ltb, le-ltb}
-use lib.ListN.{length}
-use Rattle.refusals.specs.Check.{refused, verdict}
+use Rattle.std.specs.Prelude.{Err}
+use Rattle.refusals.specs.declared.Refusal.TheVariants.{TooManyMarks, OutOfRange, EqualMarks}
+use Rattle.refusals.specs.Check.{verdict}
 use Rattle.plane.proofs.Laws.Tells.{cond_yes, cond_no}
+use Rattle.refusals.proofs.First.{found_some, found_past}
 use Rattle.refusals.proofs.check_list.Goals as goal
 
 pub returns-then-m-eq1 : goal.returns-then-m-eq1
@@ -15,40 +17,43 @@ pub returns-then-n-gt128 : goal.returns-then-n-gt128
 unfolding verdict
 returns-then-n-gt128 c = record {
   answered =
-      ap (refused 2) c.count-n.ensures.counted ∙
+      ap (λ (k : ℕ). Err (TooManyMarks k)) c.count-n.ensures.counted ∙
       sym (cond_no _ _ (ne_eqb _ _ c.if-m-eq1.false) ∙ cond_yes _ _
       (lt-ltb _ _ (subst (λ (k : ℕ). 128 < k) c.count-n.ensures.counted c.if-n-gt128.true)));
 }
 
-pub returns-then-out-m : goal.returns-then-out-m
+pub returns-in-Some : goal.returns-in-Some
 unfolding verdict
-returns-then-out-m c = record {
-  answered =
-      ap (refused 3) c.first_out-out.ensures.first ∙
-      sym (cond_no _ _ (ne_eqb _ _ c.if-m-eq1.false) ∙ cond_no _ _
-      (le-ltb _ _ (subst (λ (k : ℕ). k ≤ 128) c.count-n.ensures.counted c.if-n-gt128.false)) ∙ cond_yes _ _
-      (lt-ltb _ _ (subst (λ (k : ℕ). k < length c.args.m.now) c.first_out-out.ensures.first c.if-out-m.true)));
-}
+returns-in-Some c =
+    let k = found_some (sym c.in-Some.is ∙ c.first_out.ensures.first) in
+    record {
+      answered =
+          ap (λ (k : ℕ). Err (OutOfRange k)) k.0 ∙
+          sym (cond_no _ _ (ne_eqb _ _ c.if-m-eq1.false) ∙ cond_no _ _
+          (le-ltb _ _ (subst (λ (k : ℕ). k ≤ 128) c.count-n.ensures.counted c.if-n-gt128.false)) ∙ cond_yes _ _ (lt-ltb _ _ k.1));
+    }
 
-pub returns-then-twin-n : goal.returns-then-twin-n
+pub returns-in-Some-first_twin : goal.returns-in-Some-first_twin
 unfolding verdict
-returns-then-twin-n c = record {
-  answered =
-      ap (refused 4) c.first_twin-twin.ensures.first ∙
-      sym (cond_no _ _ (ne_eqb _ _ c.if-m-eq1.false) ∙ cond_no _ _
-      (le-ltb _ _ (subst (λ (k : ℕ). k ≤ 128) c.count-n.ensures.counted c.if-n-gt128.false)) ∙ cond_no _ _
-      (le-ltb _ _ (subst (λ (k : ℕ). length c.args.m.now ≤ k) c.first_out-out.ensures.first c.if-out-m.false))
-      ∙ cond_yes _ _
-      (lt-ltb _ _ (subst₂ ◌<◌ c.first_twin-twin.ensures.first c.count-n.ensures.counted c.if-twin-n.true)));
-}
+returns-in-Some-first_twin c =
+    let k = found_past (sym c.in_default.is ∙ c.first_out.ensures.first) in
+    let j = found_some (sym c.in-Some-first_twin.is ∙ c.first_twin.ensures.first) in
+    record {
+      answered =
+          ap (λ (k : ℕ). Err (EqualMarks k)) j.0 ∙
+          sym (cond_no _ _ (ne_eqb _ _ c.if-m-eq1.false) ∙ cond_no _ _
+          (le-ltb _ _ (subst (λ (k : ℕ). k ≤ 128) c.count-n.ensures.counted c.if-n-gt128.false)) ∙ cond_no _ _ (le-ltb _ _ k)
+          ∙ cond_yes _ _ (lt-ltb _ _ j.1));
+    }
 
 pub returns : goal.returns
 unfolding verdict
-returns c = record {
-  answered =
-      sym (cond_no _ _ (ne_eqb _ _ c.if-m-eq1.false) ∙ cond_no _ _
-      (le-ltb _ _ (subst (λ (k : ℕ). k ≤ 128) c.count-n.ensures.counted c.if-n-gt128.false)) ∙ cond_no _ _
-      (le-ltb _ _ (subst (λ (k : ℕ). length c.args.m.now ≤ k) c.first_out-out.ensures.first c.if-out-m.false)) ∙
-      cond_no _ _
-      (le-ltb _ _ (subst₂ ◌≤◌ c.count-n.ensures.counted c.first_twin-twin.ensures.first c.if-twin-n.false)));
-}
+returns c =
+    let k = found_past (sym c.in_default.is ∙ c.first_out.ensures.first) in
+    let j = found_past (sym c.in_default-first_twin.is ∙ c.first_twin.ensures.first) in
+    record {
+      answered =
+          sym (cond_no _ _ (ne_eqb _ _ c.if-m-eq1.false) ∙ cond_no _ _
+          (le-ltb _ _ (subst (λ (k : ℕ). k ≤ 128) c.count-n.ensures.counted c.if-n-gt128.false)) ∙ cond_no _ _ (le-ltb _ _ k)
+          ∙ cond_no _ _ (le-ltb _ _ j));
+    }

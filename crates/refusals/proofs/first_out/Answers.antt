@@ -1,33 +1,18 @@
--- `refusals::first_out` meets its contract. The invariant: the numbers passed are in range. Assumes nothing.
-use mathlib.Core.Path.{sym, ◌∙◌, ap}
-use mathlib.Core.Bool.{not}
-use native.Mathlib.Omega.{arith}
-use borrow.Author.Count.{below_none, below_more}
-use Rattle.refusals.specs.Check.{in_range, is_out, first_out}
-use Rattle.plane.proofs.Laws.Bounds.{back}
-use Rattle.plane.proofs.Laws.Numbers.{first_here, first_none}
+-- `refusals::first_out` meets its contract: what `position` gives is the first. Assumes nothing.
+use mathlib.Core.Path.{◌≡◌}
+use mathlib.Core.Bool.{true, false, not}
+use lib.IntN.{pos}
 use Rattle.std.proofs.Common.{rules}
+use Rattle.std.proofs.lemmas.Iterator.{YieldsList-from_slice, IsFirst-from_position}
+use Rattle.refusals.specs.Check.{in_range, is_out, first_out}
+use Rattle.refusals.proofs.First.{first_in}
 use Rattle.refusals.proofs.first_out.Goals as goal
 
-pub loop-k-init : goal.loop-k-init
-loop-k-init c = (search rules, below_none _)
-
-pub returns-then-not-is_in_range : goal.returns-then-not-is_in_range
-unfolding first_out is_out
-returns-then-not-is_in_range c = record {
-  first =
-      first_here _ _ _ (search rules) c.loop-k.invariant.1
-      (ap not (ap in_range (sym (back (search rules))) ∙ sym c.is_in_range.ensures.ranged ∙ c.if-not-is_in_range.true));
-}
-
-pub loop-k-preserved : goal.loop-k-preserved
-unfolding is_out
-loop-k-preserved c = (
-  search rules,
-  below_more _ _ c.loop-k.invariant.1
-      (ap not (ap in_range (sym (back (search rules))) ∙ sym c.is_in_range.ensures.ranged ∙ c.if-not-is_in_range.false)),
-)
-
 pub returns : goal.returns
-unfolding first_out
-returns c = record { first = first_none _ _ _ (omega arith) c.loop-k.invariant.1 }
+unfolding first_out is_out
+returns c = record {
+  first =
+      first_in (λ z. not (in_range z)) c.args.m.now (pos 0) _
+      (IsFirst-from_position _ _ _ (λ z. not (in_range z) ≡ true) (λ z. not (in_range z) ≡ false) c.position.ensures.ran
+      (YieldsList-from_slice c.args.m.now (search rules)) (λ x q k. search rules) (λ x q k. search rules));
+}

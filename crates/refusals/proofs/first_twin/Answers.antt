@@ -1,28 +1,21 @@
--- `refusals::first_twin` meets its contract. The invariant: the marks passed equal no earlier one. Assumes nothing.
-use mathlib.Core.Path.{sym, ◌∙◌}
-use native.Mathlib.Omega.{arith}
-use borrow.Author.Count.{below_none, below_more}
-use Rattle.refusals.specs.Check.{first_twin}
-use Rattle.plane.proofs.Laws.Numbers.{first_here, first_none}
+-- `refusals::first_twin` meets its contract: what `find` gives is the first. Assumes nothing.
+use mathlib.Core.Path.{◌≡◌, subst}
+use mathlib.Core.Bool.{true, false}
+use Prim.Native.Nat.{ℕ}
 use Rattle.std.proofs.Common.{rules}
+use Rattle.std.proofs.lemmas.Iterator.{first_from_Range}
+use Rattle.refusals.specs.Check.{has_twin, first_twin, found}
+use Rattle.refusals.proofs.First.{first_found}
+use Rattle.plane.specs.Numbers.{first_to}
 use Rattle.refusals.proofs.first_twin.Goals as goal
-
-pub loop-j-init : goal.loop-j-init
-loop-j-init c = (search rules, c.count-n.ensures.counted, below_none _)
-
-pub returns-then-has_twin : goal.returns-then-has_twin
-unfolding first_twin
-returns-then-has_twin c = record {
-  first = first_here _ _ _ (search rules) c.loop-j.invariant.2 (sym c.has_twin.ensures.twin ∙ c.if-has_twin.true);
-}
-
-pub loop-j-preserved : goal.loop-j-preserved
-loop-j-preserved c = (
-  search rules,
-  c.loop-j.invariant.1,
-  below_more _ _ c.loop-j.invariant.2 (sym c.has_twin.ensures.twin ∙ c.if-has_twin.false),
-)
 
 pub returns : goal.returns
 unfolding first_twin
-returns c = record { first = first_none _ _ _ (omega arith) c.loop-j.invariant.2 }
+returns c =
+    let first =
+    first_found (has_twin c.args.m.now) c.count.result _
+    (first_from_Range _ _ _ _ (λ j. has_twin c.args.m.now j ≡ true) (λ j. has_twin c.args.m.now j ≡ false) c.find.ensures.ran
+    (λ x q k. search rules) (λ x q k. search rules)) in
+    record {
+      first = subst (λ (n : ℕ). c.find.result ≡ found (first_to n (has_twin c.args.m.now)) n) c.count.ensures.counted first;
+    }

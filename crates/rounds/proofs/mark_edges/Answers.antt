@@ -1,67 +1,85 @@
--- `rounds::mark_edges` meets its contract. The invariant: below pair i the bytes and the table are written. Assumes nothing.
-use mathlib.Core.Path.{ap, ◌∙◌, subst}
-use Prim.Native.Nat.{ℕ}
-use native.Mathlib.Omega.{arith}
+-- `rounds::mark_edges` meets its contract: each turn writes the byte and the two sets of the next pair. Assumes nothing.
+use Rattle.std.proofs.Common.{rules, length, ◌≡◌, sym, ap, ◌∙◌, arith}
+use mathlib.Core.Bool.{cond}
+use mathlib.Core.Path.{subst}
+use Prim.Native.Nat.{ℕ, ◌+◌}
+use lib.ListN.{set, length-append}
+use Rattle.plane.specs.Marks.{count}
 use Rattle.masks.specs.Table.{Filled}
 use Rattle.masks.proofs.Laws.Table.{fill_end}
+use Rattle.pairs.specs.Pairs.{pair_count, all_pairs}
 use Rattle.striking.specs.Status.{all_edges}
 use Rattle.certificates.specs.Plate.{plate}
 use Rattle.rounds.specs.Run.{edge_byte}
-use Rattle.rounds.proofs.Filling.{filling_none, filling_next, filling_end}
-use Rattle.certificates.proofs.Places.{place, pair_at_first, pair_at_next}
+use Rattle.rounds.proofs.Filling.{Filling, filling_none, filling_next, filling_end}
 use Rattle.rounds.proofs.Readiness.{edge_byte_lem, filled_next}
-use Rattle.std.proofs.Common.{rules}
+use Rattle.rounds.proofs.Pairs.{PairTurn, pair_turn, pairs_over}
 use Rattle.rounds.proofs.mark_edges.Goals as goal
+use Rattle.rounds.proofs.mark_edges.Goals.{In-Some}
 
-pub loop-i-init : goal.loop-i-init
-loop-i-init c = (search rules, pair_at_first, filling_none _ _, c.requires.filled_before)
+turn : (c : In-Some) → PairTurn c.args.m.now (length c.loop-p.yielded) c.in-Some.p c.next.new.self
+turn c = pair_turn c.args.m.now _ c.loop-p.invariant.pairs c.in-Some.ensures.steps
 
-pub store_pair-requires-clause-plate : goal.store_pair-requires-clause-plate
-store_pair-requires-clause-plate c = c.requires.plate
+pub loop-p-init : goal.loop-p-init
+loop-p-init c = record {
+  pairs = c.into_iter-p-iterator.ensures.into_iter_gives ∙ c.of-p-items.ensures.all ∙ ap all_pairs c.count.ensures.counted;
+  most = search rules;
+  bytes = filling_none _ _;
+  table = c.requires.filled_before;
+}
 
 pub store_pair-requires-clause-a_lt_b : goal.store_pair-requires-clause-a_lt_b
-store_pair-requires-clause-a_lt_b c =
-    let g = place c.args.m.now _ c.loop-i.invariant.1 (omega arith) in
-    g.up
+store_pair-requires-clause-a_lt_b c = (turn (goal.at.store_pair-requires-clause-a_lt_b c).In-Some).here.up
 
 pub store_pair-requires-clause-b_is_mark : goal.store_pair-requires-clause-b_is_mark
-store_pair-requires-clause-b_is_mark c =
-    let g = place c.args.m.now _ c.loop-i.invariant.1 (omega arith) in
-    g.mark
+store_pair-requires-clause-b_is_mark c = (turn (goal.at.store_pair-requires-clause-b_is_mark c).In-Some).here.mark
 
 pub store_pair-requires-clause-filled_before : goal.store_pair-requires-clause-filled_before
 store_pair-requires-clause-filled_before c =
-    let g = place c.args.m.now _ c.loop-i.invariant.1 (omega arith) in
-    subst (λ (x : ℕ). Filled c.args.m.now c.loop-i.t x) g.number c.loop-i.invariant.3
+    subst (λ (x : ℕ). Filled c.args.m.now c.loop-p.t x) (turn (goal.at.store_pair-requires-clause-filled_before c).In-Some).here.number
+    c.loop-p.invariant.table
 
-pub next_pair-p-requires-clause-a_lt_b : goal.next_pair-p-requires-clause-a_lt_b
-next_pair-p-requires-clause-a_lt_b c =
-    let g = place c.args.m.now _ c.loop-i.invariant.1 (omega arith) in
-    g.up
+pub pair_number-requires-clause-a_lt_b : goal.pair_number-requires-clause-a_lt_b
+pair_number-requires-clause-a_lt_b c = (turn (goal.at.pair_number-requires-clause-a_lt_b c).In-Some).here.up
 
-pub next_pair-p-requires-clause-b_bound : goal.next_pair-p-requires-clause-b_bound
-next_pair-p-requires-clause-b_bound c =
-    let g = place c.args.m.now _ c.loop-i.invariant.1 (omega arith) in
+pub pair_number-requires-clause-b_bound : goal.pair_number-requires-clause-b_bound
+pair_number-requires-clause-b_bound c =
+    let h = (turn (goal.at.pair_number-requires-clause-b_bound c).In-Some).here.mark in
     omega arith
 
-pub loop-i-smaller : goal.loop-i-smaller
-loop-i-smaller c = omega arith
+pub bounds-st-pair_number : goal.bounds-st-pair_number
+bounds-st-pair_number c =
+    let t = turn (goal.at.bounds-st-pair_number c).In-Some in
+    omega (arith, c.pair_number.ensures.numbered, t.here.number, t.below, c.loop-p.invariant.bytes.size, c.requires.st_len)
 
-pub loop-i-preserved : goal.loop-i-preserved
-loop-i-preserved c =
-    let g = place c.args.m.now _ c.loop-i.invariant.1 (omega arith) in (
-      omega arith,
-      pair_at_next _ c.next_pair-p.ensures.next c.loop-i.invariant.1,
-      filling_next c.loop-i.invariant.2 _ (omega arith)
-          (c.edge_byte-x.ensures.byte ∙ ap edge_byte c.store_pair.ensures.kind ∙ edge_byte_lem g),
-      filled_next g.number c.store_pair.ensures.filled,
-    )
+pub loop-p-preserved : goal.loop-p-preserved
+loop-p-preserved c =
+    let m = c.args.m.now in
+    let l = c.loop-p in
+    let t = turn (goal.at.loop-p-preserved c).In-Some in
+    let k = length l.yielded in
+    rw length-append (record {
+      pairs = t.left;
+      most = omega (arith, t.below);
+      bytes =
+          subst (λ (i : ℕ). Filling (λ j. cond ((plate m).edge j) 1 0) (k + 1) c.args.st.now (set l.st i c.edge_byte.result))
+          (t.here.number ∙ sym c.pair_number.ensures.numbered)
+          (filling_next l.invariant.bytes _ (omega (arith, t.below, c.requires.st_len))
+          (c.edge_byte.ensures.byte ∙ ap edge_byte c.store_pair.ensures.kind ∙ edge_byte_lem t.here));
+      table = filled_next t.here.number c.store_pair.ensures.filled;
+    })
 
 pub returns-clause-edges : goal.returns-clause-edges
 unfolding all_edges plate
-returns-clause-edges c = filling_end c.loop-i.invariant.2 _ c.requires.st_len (omega arith)
+returns-clause-edges c =
+    filling_end c.loop-p.invariant.bytes _ c.requires.st_len
+    (pairs_over c.args.m.now _ c.loop-p.invariant.pairs c.in-None.ensures.steps.0)
 
 pub returns-clause-filled : goal.returns-clause-filled
-unfolding all_edges plate
 returns-clause-filled c =
-    fill_end (subst (λ (x : ℕ). Filled c.args.m.now c.loop-i.t x) (omega arith) c.loop-i.invariant.3)
+    let m = c.args.m.now in
+    let k = length c.loop-p.yielded in
+    let over = pairs_over m k c.loop-p.invariant.pairs c.in-None.ensures.steps.0 in
+    let most = c.loop-p.invariant.most in
+    let e : k ≡ pair_count (count m) = omega arith in
+    fill_end (subst (λ (x : ℕ). Filled m c.loop-p.t x) e c.loop-p.invariant.table)

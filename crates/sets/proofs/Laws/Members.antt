@@ -1,4 +1,4 @@
--- Going through a set, member by member: `first_of`, then `rest_of` and `first_of` again. What the first member is not, a later one may
+-- Going through a set, member by member, by `pop_first` again and again. What the first member is not, a later one may
 -- be; so a search for the first member with a test looks at each once. Assumes nothing.
 use mathlib.Core.Path.{◌≡◌, refl, sym, ap, ◌∙◌}
 use mathlib.Core.Logic.{⊎_elim}

@@ -5,7 +5,4 @@ use Rattle.sides.proofs.Laws.{found}
 use Rattle.sides.proofs.pass_over.Given as goal
 
 abbrev pub invariant-loop-k : goal.invariant-loop-k
-invariant-loop-k l = (l.lo ≤ l.k) × (l.k ≤ l.hi) × Passed l.m l.a l.b l.k (l.hi - l.k) (found l.left l.right l.clear)
-
-abbrev pub decreases-loop-k : goal.decreases-loop-k
-decreases-loop-k l = l.k - l.lo
+invariant-loop-k l = (l.lo ≤ l.k) × Passed l.m l.a l.b l.k (l.hi - l.k) (found l.left l.right l.clear)

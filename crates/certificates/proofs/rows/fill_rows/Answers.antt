@@ -1,60 +1,105 @@
--- `rows::fill_rows` meets its contract. The loop's invariant: p is pair i, and the rows are those of the pairs below i. No pair is
--- below 0, and past the last byte there is none to add. The measure is what is left of the bytes. Assumes nothing.
-use mathlib.Core.Path.{refl}
-use native.Mathlib.Omega.{arith}
-use Rattle.pairs.specs.Pairs.{pair_at}
-use Rattle.certificates.proofs.Near.{rows_start, rows_end}
-use Rattle.certificates.proofs.Places.{place, pair_at_next}
-use Rattle.std.proofs.Common.{rules}
+-- `rows::fill_rows` meets its contract: each turn adds the edge of the next pair, if it has one, and the turns end with the pairs. No pair is
+-- below 0, and past the last byte there is none to add. Assumes nothing.
+use Rattle.std.proofs.Common.{length, ◌≡◌, ◌≤◌, sym, ap, ◌∙◌, arith}
+use mathlib.Core.Logic.{inl, inr}
+use mathlib.Core.Path.{subst}
+use Prim.Native.Nat.{ℕ, ◌+◌}
+use lib.ListN.{get_or, length-append}
+use Rattle.std.specs.Iterator.Adapters.{zip_first, zip_second}
+use Rattle.std.specs.Slice.Iter.{iter_rest}
+use Rattle.plane.specs.Marks.{count}
+use Rattle.pairs.specs.Pairs.{pair_count, all_pairs}
+use Rattle.pairs.proofs.Turns.{all_pairs_length, turn_of, pair_is, none_left}
+use Rattle.striking.specs.Status.{remaining}
+use Rattle.striking.proofs.Remaining.{remaining_yes}
+use Rattle.certificates.specs.Plate.{edges_of}
+use Rattle.certificates.specs.Rows.{Rows, below}
+use Rattle.certificates.proofs.Near.{rows_start, rows_end, rows_skipped}
+use Rattle.certificates.proofs.Places.{Place, place}
 use Rattle.certificates.proofs.rows.fill_rows.Goals as goal
+use Rattle.certificates.proofs.rows.fill_rows.Goals.{In-Some}
 
-pub loop-i-init : goal.loop-i-init
-unfolding pair_at
-loop-i-init c = (search rules, refl, rows_start _ c.requires.d_value)
+here : (c : In-Some) → Place c.args.m.now (length c.loop-p.yielded) c.in-Some.p
+here c =
+    let all = all_pairs (count c.args.m.now) in
+    let k = length c.loop-p.yielded in
+    let h = turn_of all k (sym c.loop-p.invariant.pairs ∙ c.in-Some.ensures.steps.0) in
+    place c.args.m.now k (pair_is _ k h) (omega (arith, h.below, all_pairs_length (count c.args.m.now)))
 
-pub join-requires-clause-plate : goal.join-requires-clause-plate
-join-requires-clause-plate c = c.requires.plate
+-- the byte of the turn
+byte_is : (c : In-Some) → c.in-Some.field-0-1.now ≡ get_or c.args.st.now (length c.loop-p.yielded) 0
+byte_is c = (turn_of c.args.st.now (length c.loop-p.yielded) (sym c.loop-p.invariant.bytes ∙ c.in-Some.ensures.steps.1)).item 0
 
-pub join-requires-clause-clean : goal.join-requires-clause-clean
-join-requires-clause-clean c = c.requires.clean
+pub loop-p-init : goal.loop-p-init
+loop-p-init c =
+    let z = c.zip-p-items.ensures in
+    let e = c.into_iter-p-iterator.ensures.into_iter_gives in
+    record {
+      can = (tt, tt);
+      ends = tt;
+      pairs = ap zip_first e ∙ z.first ∙ c.of.ensures.all ∙ ap all_pairs c.count.ensures.counted;
+      bytes = ap (λ i. iter_rest (zip_second i)) e ∙ z.second.0;
+      rows = rows_start _ c.requires.d_value;
+    }
 
 pub join-requires-clause-rows : goal.join-requires-clause-rows
-join-requires-clause-rows c = c.loop-i.invariant.2
+join-requires-clause-rows c =
+    let a = c.args in
+    let n = (here (goal.at.join-requires-clause-rows c).In-Some).number in
+    subst (λ (i : ℕ). Rows a.m.now (edges_of a.m.now (below i (remaining a.st.now))) c.loop-p.d) n c.loop-p.invariant.rows
 
 pub join-requires-clause-a_lt_b : goal.join-requires-clause-a_lt_b
-join-requires-clause-a_lt_b c =
-    let l = c.loop-i in
-    let n = place c.args.m.now l.i l.invariant.1 (omega arith) in
-    n.up
+join-requires-clause-a_lt_b c = (here (goal.at.join-requires-clause-a_lt_b c).In-Some).up
 
 pub join-requires-clause-b_is_mark : goal.join-requires-clause-b_is_mark
-join-requires-clause-b_is_mark c =
-    let l = c.loop-i in
-    let n = place c.args.m.now l.i l.invariant.1 (omega arith) in
-    n.mark
+join-requires-clause-b_is_mark c = (here (goal.at.join-requires-clause-b_is_mark c).In-Some).mark
 
-pub join-requires-clause-i_value : goal.join-requires-clause-i_value
-join-requires-clause-i_value c =
-    let l = c.loop-i in
-    let n = place c.args.m.now l.i l.invariant.1 (omega arith) in
-    n.number
+pub join-requires-clause-remains : goal.join-requires-clause-remains
+join-requires-clause-remains c =
+    let n = (here (goal.at.join-requires-clause-remains c).In-Some).number in
+    ap (remaining c.args.st.now) (sym n) ∙
+    remaining_yes c.args.st.now _ (λ e. c.if-byte-ne0.true (byte_is (goal.at.join-requires-clause-remains c).In-Some ∙ e))
 
-pub next_pair-p-requires-clause-a_lt_b : goal.next_pair-p-requires-clause-a_lt_b
-next_pair-p-requires-clause-a_lt_b c =
-    let l = c.loop-i in
-    let n = place c.args.m.now l.i l.invariant.1 (omega arith) in
-    n.up
+pub loop-p-preserved-then-byte-ne0 : goal.loop-p-preserved-then-byte-ne0
+loop-p-preserved-then-byte-ne0 c =
+    let a = c.args in
+    let k = length c.loop-p.yielded in
+    let n = (here (goal.at.loop-p-preserved-then-byte-ne0 c).In-Some).number in
+    let h = turn_of (all_pairs (count a.m.now)) k (sym c.loop-p.invariant.pairs ∙ c.in-Some.ensures.steps.0) in
+    let g = turn_of a.st.now k (sym c.loop-p.invariant.bytes ∙ c.in-Some.ensures.steps.1) in
+    rw length-append (record {
+      can = (tt, tt);
+      ends = tt;
+      pairs = h.left;
+      bytes = g.left;
+      rows =
+          subst (λ (i : ℕ). Rows a.m.now (edges_of a.m.now (below (i + 1) (remaining a.st.now))) c.join.new.d) (sym n)
+          c.join.ensures.joined;
+    })
 
-pub next_pair-p-requires-clause-b_bound : goal.next_pair-p-requires-clause-b_bound
-next_pair-p-requires-clause-b_bound c =
-    let l = c.loop-i in
-    let n = place c.args.m.now l.i l.invariant.1 (omega arith) in
-    omega arith
-
-pub loop-i-preserved : goal.loop-i-preserved
-loop-i-preserved c =
-    let l = c.loop-i in
-    (search rules, pair_at_next l.i c.next_pair-p.ensures.next l.invariant.1, c.join.ensures.joined)
+pub loop-p-preserved : goal.loop-p-preserved
+loop-p-preserved c =
+    let a = c.args in
+    let k = length c.loop-p.yielded in
+    let h = turn_of (all_pairs (count a.m.now)) k (sym c.loop-p.invariant.pairs ∙ c.in-Some.ensures.steps.0) in
+    let g = turn_of a.st.now k (sym c.loop-p.invariant.bytes ∙ c.in-Some.ensures.steps.1) in
+    rw length-append (record {
+      can = (tt, tt);
+      ends = tt;
+      pairs = h.left;
+      bytes = g.left;
+      rows =
+          rows_skipped a.st.now k (sym (byte_is (goal.at.loop-p-preserved c).In-Some) ∙ c.if-byte-ne0.false)
+          c.loop-p.invariant.rows;
+    })
 
 pub returns : goal.returns
-returns c = record { filled = rows_end _ c.loop-i.i (search rules) c.loop-i.invariant.2 }
+returns c =
+    let k = length c.loop-p.yielded in
+    let n = count c.args.m.now in
+    let all : pair_count n ≤ k =
+    elim c.in-None.ensures.steps as (λ x. pair_count n ≤ k) [
+      | inl e ↦ omega (arith, all_pairs_length n, none_left (all_pairs n) k (ap length (sym c.loop-p.invariant.pairs ∙ e.1.0)))
+      | inr e ↦ omega (arith, c.requires.st_len, none_left c.args.st.now k (ap length (sym c.loop-p.invariant.bytes) ∙ e.1.0))
+    ] in
+    record { filled = rows_end _ k (omega (arith, c.requires.st_len)) c.loop-p.invariant.rows }

@@ -1,31 +1,34 @@
 -- `list::answer` meets its contract. Assumes nothing.
-use mathlib.Core.Path.{refl, sym, ◌∙◌}
+use mathlib.Core.Path.{◌≡◌, refl, sym, ◌∙◌}
+use Prim.Native.Nat.{◌≤◌}
 use native.Mathlib.Omega.{arith}
 use lib.Seq.{length-take-le}
+use Rattle.std.specs.Prelude.{Ok}
+use Rattle.reading.specs.Read.{reading_of, refused}
 use Rattle.reading.proofs.Answer.{count_small}
 use Rattle.listing.proofs.Listed.{answered_refused, answered_read, status_refused, status_read, read_part, stands_as, stands_room}
 use Rattle.listing.specs.Program.{answer_text}
 use Rattle.listing.proofs.list.answer.Goals as goal
+use Rattle.listing.proofs.list.answer.Goals.{In-Ok, In-Err}
 
-pub write_refusal-requires : goal.write_refusal-requires
-write_refusal-requires c = omega arith
+was_read : (c : In-Ok) → reading_of c.args.text.now ≡ Ok c.in-Ok.field-0
+was_read c = sym c.read.ensures.answered ∙ c.in-Ok.is
+
+few : (c : In-Ok) → c.in-Ok.field-0.count ≤ 2046
+few c = count_small _ _ (sym (was_read c))
+
+was_refused : (c : In-Err) → reading_of c.args.text.now ≡ refused c.in-Err.field-0.0
+was_refused c = sym c.read.ensures.answered ∙ c.in-Err.is
 
 pub slice_bounds-numbers-end : goal.slice_bounds-numbers-end
-slice_bounds-numbers-end c =
-    let n = count_small _ _ _ (sym (sym c.read-x.ensures.answered ∙ c.in-Read.is)) in
-    omega arith
+slice_bounds-numbers-end c = let n = few (goal.at.slice_bounds-numbers-end c).In-Ok in omega arith
 
 pub slice_bounds-list_cleared-end : goal.slice_bounds-list_cleared-end
-slice_bounds-list_cleared-end c =
-    sym
-    (length-take-le _ _ (let n = count_small _ _ _ (sym (sym c.read-x.ensures.answered ∙ c.in-Read.is)) in omega arith))
+slice_bounds-list_cleared-end c = let n = few (goal.at.slice_bounds-list_cleared-end c).In-Ok in sym (length-take-le _ _ (omega arith))
 
-pub list_cleared-requires : goal.list_cleared-requires
-list_cleared-requires c = record { cleared = c.requires.cleared; out_room = c.requires.out_room }
-
-pub returns-in-Refused : goal.returns-in-Refused
-returns-in-Refused c =
-    let e = sym c.read-x.ensures.answered ∙ c.in-Refused.is in
+pub returns-in-Err : goal.returns-in-Err
+returns-in-Err c =
+    let e = was_refused (goal.at.returns-in-Err c).In-Err in
     let h =
     stands_as c.args.out.now (answered_refused c.args.text.now e)
     (c.write_refusal.ensures.counted, c.write_refusal.ensures.written) in
@@ -36,12 +39,11 @@ returns-in-Refused c =
       status = c.requires.cleared ∙ status_refused c.args.text.now e;
     }
 
-pub returns-in-Read : goal.returns-in-Read
-returns-in-Read c =
-    let r = c.read-x.ensures in
+pub returns-in-Ok : goal.returns-in-Ok
+returns-in-Ok c =
     let l = c.list_cleared.ensures in
-    let e = sym r.answered ∙ c.in-Read.is in
-    let numbers = read_part c.args.text.now _ c.in-Read.count _ e r.stored in
+    let e = was_read (goal.at.returns-in-Ok c).In-Ok in
+    let numbers = read_part c.args.text.now _ _ e c.read.ensures.stored in
     let h = stands_as c.args.out.now (answered_read c.args.text.now e numbers) (l.counted, l.written) in
     record {
       counted = h.0;

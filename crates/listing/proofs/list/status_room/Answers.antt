@@ -13,12 +13,9 @@ returns-then-n-gt128 c = record {
   room = sym (cond_yes _ _ (lt-ltb _ _ (subst (λ (k : ℕ). 128 < k) c.count-n.ensures.counted c.if-n-gt128.true)));
 }
 
-pub pair_count-requires : goal.pair_count-requires
-pair_count-requires c = c.if-n-gt128.false
-
-pub returns : goal.returns
+pub returns-else-n-gt128 : goal.returns-else-n-gt128
 unfolding status_room
-returns c =
+returns-else-n-gt128 c =
     let e = c.count-n.ensures.counted in
     record {
       room =

@@ -1,27 +1,21 @@
--- `edge::is_empty_edge` meets its contract. The invariant: the marks passed leave the edge clear. Assumes nothing.
-use mathlib.Core.Path.{sym, ◌∙◌}
+-- `edge::is_empty_edge` meets its contract: it asks of every mark. Assumes nothing.
+use mathlib.Core.Path.{◌≡◌, refl}
+use mathlib.Core.Bool.{true, false}
 use native.Mathlib.Omega.{arith}
-use Rattle.plane.specs.Edge.{empty_edge}
-use Rattle.plane.proofs.Laws.Numbers.{all_none, all_more, all_no, all_end}
+use borrow.Author.Tests.{tests}
+use Rattle.plane.specs.Marks.{count}
+use Rattle.plane.specs.Edge.{clear, empty_edge}
+use Rattle.plane.proofs.Laws.Numbers.{all_by_cases}
+use Rattle.std.proofs.lemmas.Iterator.{cases_from_all, YieldsList-from_range}
 use Rattle.std.proofs.Common.{rules}
 use Rattle.plane.proofs.edge.is_empty_edge.Goals as goal
 
-pub loop-k-init : goal.loop-k-init
-loop-k-init c = (search rules, c.count-n.ensures.counted, all_none _)
-
-pub returns-then-not-is_clear : goal.returns-then-not-is_clear
-unfolding empty_edge
-returns-then-not-is_clear c = record {
-  empty = sym (all_no _ c.loop-k.k _ (search rules) (sym c.is_clear.ensures.clear ∙ c.if-not-is_clear.true));
-}
-
-pub loop-k-preserved : goal.loop-k-preserved
-loop-k-preserved c = (
-  search rules,
-  c.loop-k.invariant.1,
-  all_more _ _ c.loop-k.invariant.2 (sym c.is_clear.ensures.clear ∙ c.if-not-is_clear.false),
-)
-
 pub returns : goal.returns
 unfolding empty_edge
-returns c = record { empty = all_end _ c.loop-k.k _ (omega arith) c.loop-k.invariant.2 }
+returns c =
+    let f = clear c.args.m.now c.args.a c.args.b in
+    record {
+      empty =
+          all_by_cases f _ _ (cases_from_all _ _ _ (λ k. f k ≡ true) (λ k. f k ≡ false) c.all.ensures.ran
+          (YieldsList-from_range 0 c.count.result (count c.args.m.now) refl (omega (arith, c.count.ensures.counted))) (λ x q k. search (rules, tests)) (λ x q k. search (rules, tests)));
+    }

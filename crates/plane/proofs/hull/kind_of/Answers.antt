@@ -1,49 +1,32 @@
 -- `hull::kind_of` meets its contract. The invariant: the marks passed leave the edge clear, and `left` and `right` say whether one of
 -- them lies strictly left, strictly right. Assumes nothing.
-use mathlib.Core.Path.{◌≡◌, refl, sym, ◌∙◌, ap, ap₂, subst}
-use mathlib.Core.Bool.{true, not, cond}
+use mathlib.Core.Path.{◌≡◌, refl, sym, ◌∙◌, ap, ap₂}
+use mathlib.Core.Bool.{Bool, true, false, not, cond, ◌||◌}
 use native.Mathlib.Omega.{arith}
 use borrow.Author.Tests.{not-true, not-false}
-use Rattle.plane.specs.Marks.{count, InRange}
-use Rattle.plane.specs.Side.{side, is_left, is_right}
+use Rattle.plane.specs.Marks.{count, mark}
 use Rattle.plane.specs.Edge.{empty_edge}
+use Rattle.plane.specs.Side.{side}
 use Rattle.plane.specs.Hull.{not_left, not_right}
 use Rattle.plane.proofs.Laws.Numbers.{all_none, all_more, all_no, all_upto, some_turn}
-use Rattle.plane.proofs.Laws.Bounds.{mark_in_range, back}
-use Rattle.plane.proofs.Laws.Side.{side_left, side_right}
+use Rattle.plane.proofs.Laws.Bounds.{rd}
+use Rattle.plane.proofs.Laws.Asked.{read, side_at, asked_left, asked_right, asked_on}
 use Rattle.plane.proofs.Laws.Tells.{not_not}
 use Rattle.plane.proofs.Laws.Hull.{kind_blocked, kind_left, kind_right, kind_inner}
 use Rattle.std.proofs.Common.{rules}
 use Rattle.plane.proofs.hull.kind_of.Goals as goal
 
+either : (x y : Bool) → (x || y) ≡ cond x true y
+either true y = refl
+either false y = refl
+
 pub loop-k-init : goal.loop-k-init
-loop-k-init c =
-    (search rules, c.count-n.ensures.counted, all_none _, sym (ap not (all_none _)), sym (ap not (all_none _)))
+loop-k-init c = (all_none _, sym (ap not (all_none _)), sym (ap not (all_none _)))
 
-pub side-s-requires-clause-p_in_range : goal.side-s-requires-clause-p_in_range
-side-s-requires-clause-p_in_range c = subst InRange (sym c.mark.ensures.placed) (mark_in_range c.requires.plate _)
-
-pub side-s-requires-clause-q_in_range : goal.side-s-requires-clause-q_in_range
-side-s-requires-clause-q_in_range c =
-    subst InRange (sym c.mark-in-loop-k.ensures.placed) (mark_in_range c.requires.plate _)
-
-pub side-s-requires-clause-r_in_range : goal.side-s-requires-clause-r_in_range
-side-s-requires-clause-r_in_range c =
-    subst InRange (sym c.mark-in-loop-k-2.ensures.placed) (mark_in_range c.requires.plate _)
-
-pub is_blocking-requires-clause-plate : goal.is_blocking-requires-clause-plate
-is_blocking-requires-clause-plate c = c.requires.plate
-
-pub is_blocking-requires-clause-a_is_mark : goal.is_blocking-requires-clause-a_is_mark
-is_blocking-requires-clause-a_is_mark c = c.requires.a_is_mark
-
-pub is_blocking-requires-clause-b_is_mark : goal.is_blocking-requires-clause-b_is_mark
-is_blocking-requires-clause-b_is_mark c = c.requires.b_is_mark
-
-pub is_blocking-requires-clause-s_value : goal.is_blocking-requires-clause-s_value
-is_blocking-requires-clause-s_value c =
-    back (record { sfits = c.side-s.type_inv }) ∙ c.side-s.ensures.sided ∙
-    (λ i. side (c.mark.ensures.placed i) (c.mark-in-loop-k.ensures.placed i) (c.mark-in-loop-k-2.ensures.placed i))
+pub is_blocking-requires-clause-on_value : goal.is_blocking-requires-clause-on_value
+is_blocking-requires-clause-on_value c =
+    asked_on _ _ _ (read (record { sfits = c.side-s.type_inv }) (c.side-s.ensures.sided ∙
+    side_at c.point.ensures c.point-in-loop-k.ensures c.point-in-loop-k-2.ensures)) c.is_on.ensures.on
 
 pub returns-then-is_blocking : goal.returns-then-is_blocking
 unfolding empty_edge
@@ -55,51 +38,39 @@ returns-then-is_blocking c = record {
 
 pub loop-k-preserved : goal.loop-k-preserved
 unfolding not_left not_right
-loop-k-preserved c = (
-  search rules,
-  c.loop-k.invariant.1,
-  all_more _ _ c.loop-k.invariant.2 (not-false _ (sym c.is_blocking.ensures.blocking ∙ c.if-is_blocking.false)),
-  c.either-left.ensures.or ∙
-      ap₂ (λ x y. cond x true y) c.loop-k.invariant.3 (c.is_left.ensures.left ∙ ap is_left (back
-      (record { sfits = c.side-s.type_inv }) ∙ c.side-s.ensures.sided ∙
-      (λ i. side (c.mark.ensures.placed i) (c.mark-in-loop-k.ensures.placed i) (c.mark-in-loop-k-2.ensures.placed i)))
-      ∙ side_left _ _ _) ∙
-      some_turn _ c.loop-k.k _ refl,
-  c.either-right.ensures.or ∙
-      ap₂ (λ x y. cond x true y) c.loop-k.invariant.4 (c.is_right.ensures.right ∙ ap is_right (back
-      (record { sfits = c.side-s.type_inv }) ∙ c.side-s.ensures.sided ∙
-      (λ i. side (c.mark.ensures.placed i) (c.mark-in-loop-k.ensures.placed i) (c.mark-in-loop-k-2.ensures.placed i)))
-      ∙ side_right _ _ _) ∙
-      some_turn _ c.loop-k.k _ refl,
-)
+loop-k-preserved c =
+    let m = c.args.m.now in
+    let e : rd c.side-s.result ≡ side (mark m c.args.a) (mark m c.args.b) (mark m c.loop-k.k) =
+    read (record { sfits = c.side-s.type_inv }) (c.side-s.ensures.sided ∙
+    side_at c.point.ensures c.point-in-loop-k.ensures c.point-in-loop-k-2.ensures) in (
+      all_more _ _ c.loop-k.invariant.0 (not-false _ (sym c.is_blocking.ensures.blocking ∙ c.if-is_blocking.false)),
+      either c.loop-k.left c.is_left-left.result ∙ ap₂ (λ x y. cond x true y) c.loop-k.invariant.1 (asked_left _ _ _ e c.is_left-left.ensures.left) ∙
+          some_turn _ c.loop-k.k _ refl,
+      either c.loop-k.right c.is_right-right.result ∙ ap₂ (λ x y. cond x true y) c.loop-k.invariant.2 (asked_right _ _ _ e c.is_right-right.ensures.right) ∙
+          some_turn _ c.loop-k.k _ refl,
+    )
 
-pub returns-then-not-left : goal.returns-then-not-left
+pub returns-then-right : goal.returns-then-right
 unfolding empty_edge
-returns-then-not-left c =
+returns-then-right c =
     let e : c.loop-k.k ≡ count c.args.m.now = omega arith in
     record {
       kind =
-          sym (kind_left _ _ _ (all_upto _ e c.loop-k.invariant.2)
-          (all_upto _ e (sym (not_not _) ∙ ap not (sym c.loop-k.invariant.3 ∙ c.if-not-left.true))));
+          sym (kind_inner _ _ _ (all_upto _ e c.loop-k.invariant.0)
+          (all_upto _ e (sym (not_not _) ∙ ap not (sym c.loop-k.invariant.1 ∙ c.if-left.true)))
+          (all_upto _ e (sym (not_not _) ∙ ap not (sym c.loop-k.invariant.2 ∙ c.if-right.true))));
     }
 
-pub returns-then-not-right : goal.returns-then-not-right
+pub returns-else-left : goal.returns-else-left
 unfolding empty_edge
-returns-then-not-right c =
+returns-else-left c =
     let e : c.loop-k.k ≡ count c.args.m.now = omega arith in
     record {
       kind =
-          sym (kind_right _ _ _ (all_upto _ e c.loop-k.invariant.2)
-          (all_upto _ e (sym (not_not _) ∙ ap not (sym c.loop-k.invariant.4 ∙ c.if-not-right.true))));
-    }
-
-pub returns : goal.returns
-unfolding empty_edge
-returns c =
-    let e : c.loop-k.k ≡ count c.args.m.now = omega arith in
-    record {
-      kind =
-          sym (kind_inner _ _ _ (all_upto _ e c.loop-k.invariant.2)
-          (all_upto _ e (sym (not_not _) ∙ ap not (sym c.loop-k.invariant.3 ∙ c.if-not-left.false)))
-          (all_upto _ e (sym (not_not _) ∙ ap not (sym c.loop-k.invariant.4 ∙ c.if-not-right.false))));
+          elim c.else-left.branch [
+            | goal.else-left-via-then-left+else-right w ↦ sym (kind_right _ _ _ (all_upto _ e c.loop-k.invariant.0)
+                (all_upto _ e (sym (not_not _) ∙ ap not (sym c.loop-k.invariant.2 ∙ w.if-right.false))))
+            | goal.else-left-via-else-left w ↦ sym (kind_left _ _ _ (all_upto _ e c.loop-k.invariant.0)
+                (all_upto _ e (sym (not_not _) ∙ ap not (sym c.loop-k.invariant.1 ∙ w.if-left.false))))
+          ];
     }

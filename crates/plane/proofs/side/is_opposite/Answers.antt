@@ -20,13 +20,14 @@ returns-then-is_right c = record {
       c.is_left-then-is_right.ensures.left ∙ ap is_left (back c.ranges.t) ∙
       sym (cond_no _ _ (ap is_left (sym (back c.ranges.s)) ∙ sym c.is_left.ensures.left ∙ c.if-is_left.false) ∙
       cond_yes _ _
-      (ap is_right (sym (back c.ranges.s)) ∙ sym c.is_right-2.ensures.right ∙ c.if-is_right.true));
+      (ap is_right (sym (back c.ranges.s)) ∙ sym c.is_right-else-is_left.ensures.right ∙ c.if-is_right.true));
 }
 
-pub returns : goal.returns
+pub returns-else-is_right : goal.returns-else-is_right
 unfolding opposite
-returns c = record {
+returns-else-is_right c = record {
   opposite =
+      c.if-is_right.false ∙
       sym (cond_no _ _ (ap is_left (sym (back c.ranges.s)) ∙ sym c.is_left.ensures.left ∙ c.if-is_left.false) ∙
-      cond_no _ _ (ap is_right (sym (back c.ranges.s)) ∙ sym c.is_right-2.ensures.right ∙ c.if-is_right.false));
+      cond_no _ _ (ap is_right (sym (back c.ranges.s)) ∙ sym c.is_right-else-is_left.ensures.right ∙ c.if-is_right.false));
 }

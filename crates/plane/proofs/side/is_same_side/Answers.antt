@@ -22,10 +22,11 @@ returns-then-is_right c = record {
       cond_yes _ _ (ap is_right (sym (back c.ranges.s)) ∙ sym c.is_right.ensures.right ∙ c.if-is_right.true));
 }
 
-pub returns : goal.returns
+pub returns-else-is_right : goal.returns-else-is_right
 unfolding same_side
-returns c = record {
+returns-else-is_right c = record {
   same =
+      c.if-is_right.false ∙
       sym (cond_no _ _ (ap is_left (sym (back c.ranges.s)) ∙ sym c.is_left.ensures.left ∙ c.if-is_left.false) ∙
       cond_no _ _ (ap is_right (sym (back c.ranges.s)) ∙ sym c.is_right.ensures.right ∙ c.if-is_right.false));
 }

@@ -1,73 +1,39 @@
--- `read::first_bad` meets its contract. The invariant: the place is where line n starts, and the lines passed are good. Assumes nothing.
-use mathlib.Core.Path.{◌≡◌, sym, ap, ◌∙◌, subst}
-use Prim.Native.Nat.{ℕ, ◌+◌, ◌≤◌, ◌<◌}
-use native.Mathlib.Omega.{arith}
-use borrow.Author.Count.{below_none, below_more}
-use lib.ListN.{length}
-use Rattle.plane.proofs.Laws.Numbers.{first_here}
-use Rattle.reading.specs.Text.{Part, feed, place_of}
-use Rattle.reading.specs.Read.{line_start, is_good, first_bad}
-use Rattle.reading.proofs.Text.{place_part}
-use Rattle.reading.proofs.Lines.{first_start, next_start, bad_here, bad_not, good_at, good_ended, none_bad}
-use Rattle.std.proofs.Common.{rules}
+-- `read::first_bad` meets its contract. The invariant: what is left is the text from line n on, and the lines passed are not bad.
+-- Assumes nothing.
+use Rattle.std.proofs.Common.{◌≡◌, List, ℕ, ◌<◌, length, sym, ◌∙◌, subst, arith, below_more, false-eqb}
+use Rattle.std.proofs.lemmas.Option.{MatchOption-at_some}
+use Rattle.reading.specs.Text.{feed, Cut}
+use Rattle.reading.specs.Read.{rest_of, is_good}
+use Rattle.reading.proofs.Lines.{next_rest, good_cut, bad_not, first_is}
 use Rattle.reading.proofs.read.first_bad.Goals as goal
-use Rattle.reading.proofs.read.first_bad.Goals.{After-is_good, After-place_of-e, Else-not-is_good, In-loop-at}
+use Rattle.reading.proofs.read.first_bad.Goals.{In-loop-rest, After-is_good}
 
-starts : (c : In-loop-at) → line_start c.args.text.now c.loop-at.n < length c.args.text.now
-starts c = subst (λ (a : ℕ). a < length c.args.text.now) c.loop-at.invariant.0 c.loop-at-test.true
+-- there is a line n
+there : (c : In-loop-rest) → 0 < length (rest_of c.args.text.now c.loop-rest.n)
+there c = rw (← c.loop-rest.invariant.left) (omega (arith, false-eqb _ _ c.loop-rest-test.ensures))
 
--- the line is a part of the text
-line : (c : After-place_of-e) → Part c.args.text.now c.loop-at.at c.place_of-e.result
-line c = subst (Part _ _) (sym c.place_of-e.ensures.placed) (place_part _ _ _ c.loop-at.invariant.2)
+-- line n is cut off, and what is asked of the part is asked of it
+cut : (c : After-is_good) → Cut feed (rest_of c.args.text.now c.loop-rest.n) c.in-Some.line.now c.in-Some.after.now
+cut c =
+    subst (λ (p : List ℕ). Cut feed p c.in-Some.line.now c.in-Some.after.now) c.loop-rest.invariant.left
+    (MatchOption-at_some _ _ _ c.in-Some.is c.split_once.ensures.cut)
 
--- what is asked of it is asked of line n
-asked : (c : After-is_good) → c.is_good.result ≡ is_good c.args.text.now c.loop-at.n
-asked c = c.is_good.ensures.good ∙ good_at _ _ _ _ c.loop-at.invariant.0 c.place_of-e.ensures.placed
-
-ended : (c : Else-not-is_good) → c.place_of-e.result < length c.args.text.now
-ended c = good_ended _ _ _ _ (sym c.is_good.ensures.good ∙ c.if-not-is_good.false)
-
-pub loop-at-init : goal.loop-at-init
-loop-at-init c = (sym (first_start _), search rules, search rules, below_none _)
-
-pub place_of-e-requires : goal.place_of-e-requires
-place_of-e-requires c = c.loop-at.invariant.2
-
-pub is_good-requires : goal.is_good-requires
-is_good-requires c = line (goal.at.is_good-requires c).After-place_of-e
+asked : (c : After-is_good) → c.is_good.result ≡ is_good c.args.text.now c.loop-rest.n
+asked c = c.is_good.ensures.good ∙ good_cut _ _ _ _ (cut c)
 
 pub returns-then-not-is_good : goal.returns-then-not-is_good
-unfolding first_bad
-returns-then-not-is_good c = record {
-  first =
-      first_here _ _ _ (omega arith) c.loop-at.invariant.3 (bad_here _ _
-      (starts (goal.at.returns-then-not-is_good c).In-loop-at)
-      (sym (asked (goal.at.returns-then-not-is_good c).After-is_good) ∙ c.if-not-is_good.true));
-}
+returns-then-not-is_good c =
+    let g = goal.at.returns-then-not-is_good c in
+    record {
+      first = first_is _ _ (there g.In-loop-rest) (sym (asked g.After-is_good) ∙ c.if-not-is_good.true) c.loop-rest.invariant.passed;
+    }
 
-pub overflow_add-at : goal.overflow_add-at
-overflow_add-at c = omega (arith, ended (goal.at.overflow_add-at c).Else-not-is_good)
-
-pub overflow_add-n : goal.overflow_add-n
-overflow_add-n c = omega arith
-
-pub loop-at-smaller : goal.loop-at-smaller
-loop-at-smaller c = omega (arith, (line (goal.at.loop-at-smaller c).After-place_of-e).ordered)
-
-pub loop-at-preserved : goal.loop-at-preserved
-loop-at-preserved c =
-    let l = c.loop-at in (
-      ap (λ (e : ℕ). e + 1) (c.place_of-e.ensures.placed ∙ ap (place_of feed _) l.invariant.0) ∙ sym (next_start _ _),
-      omega (arith, (line (goal.at.loop-at-preserved c).After-place_of-e).ordered),
-      omega (arith, ended (goal.at.loop-at-preserved c).Else-not-is_good),
-      below_more _ _ l.invariant.3 (bad_not _ _ (starts (goal.at.loop-at-preserved c).In-loop-at)
-          (sym (asked (goal.at.loop-at-preserved c).After-is_good) ∙ c.if-not-is_good.false)),
-    )
-
-pub returns : goal.returns
-returns c = record {
-  first =
-      none_bad _ c.loop-at.n
-      (subst (λ (a : ℕ). length c.args.text.now ≤ a) c.loop-at.invariant.0 c.loop-at-test.false)
-      c.loop-at.invariant.3;
-}
+pub loop-rest-preserved : goal.loop-rest-preserved
+loop-rest-preserved c =
+    let g = goal.at.loop-rest-preserved c in
+    record {
+      left = (cut g.After-is_good).right ∙ sym (next_rest _ _);
+      passed =
+          below_more _ _ c.loop-rest.invariant.passed
+          (bad_not _ _ (there g.In-loop-rest) (sym (asked g.After-is_good) ∙ c.if-not-is_good.false));
+    }

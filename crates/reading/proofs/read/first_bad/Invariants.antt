@@ -1,15 +1,10 @@
--- The invariant of the loop of `read::first_bad`: the place is where line n starts, and the lines passed are good.
-use mathlib.Core.Path.{◌≡◌}
-use mathlib.Core.Bool.{false}
-use Prim.Native.Nat.{ℕ, ◌-◌, ◌≤◌, ◌<◌}
-use lib.ListN.{length}
-use Rattle.reading.specs.Read.{line_start, is_bad}
+-- The invariant of the loop of `read::first_bad`: what is left is the text from line n on, and the lines passed are not bad.
+use Rattle.std.proofs.Common.{◌≡◌, false, ℕ, ◌<◌, length}
+use Rattle.reading.specs.Read.{rest_of, is_bad}
 use Rattle.reading.proofs.read.first_bad.Given as goal
 
-abbrev pub invariant-loop-at : goal.invariant-loop-at
-invariant-loop-at l =
-    (l.at ≡ line_start l.text l.n) × (l.n ≤ l.at) × (l.at ≤ length l.text) ×
-    ((k : ℕ) → k < l.n → is_bad l.text k ≡ false)
+abbrev pub invariant-loop-rest : goal.invariant-loop-rest
+invariant-loop-rest l = record { left : l.rest ≡ rest_of l.text l.n; passed : (k : ℕ) → k < l.n → is_bad l.text k ≡ false }
 
-abbrev pub decreases-loop-at : goal.decreases-loop-at
-decreases-loop-at l = length l.text - l.at
+abbrev pub decreases-loop-rest : goal.decreases-loop-rest
+decreases-loop-rest l = length l.rest

@@ -9,6 +9,6 @@ pub returns-then-y-eq0 : goal.returns-then-y-eq0
 unfolding common_byte
 returns-then-y-eq0 c = record { kept = sym (cond_yes _ _ (eq-eqb _ _ c.if-y-eq0.true)) }
 
-pub returns : goal.returns
+pub returns-else-y-eq0 : goal.returns-else-y-eq0
 unfolding common_byte
-returns c = record { kept = sym (cond_no _ _ (ne_eqb _ _ c.if-y-eq0.false)) }
+returns-else-y-eq0 c = record { kept = sym (cond_no _ _ (ne_eqb _ _ c.if-y-eq0.false)) }

@@ -1,23 +1,19 @@
--- `request::first_above` meets its contract. The invariant: the bytes passed are not above 2. Assumes nothing.
-use native.Mathlib.Omega.{arith}
-use borrow.Author.Tests.{lt-ltb, le-ltb}
-use borrow.Author.Count.{below_none, below_more}
-use Rattle.skeleton.specs.Answers.{is_above, first_above}
-use Rattle.plane.proofs.Laws.Numbers.{first_here, first_none}
+-- `request::first_above` meets its contract: what `position` gives is the first. Assumes nothing.
+use mathlib.Core.Path.{◌≡◌}
+use mathlib.Core.Bool.{true, false}
+use borrow.Author.Tests.{tests}
+use lib.Dec.{ltb}
 use Rattle.std.proofs.Common.{rules}
+use Rattle.std.proofs.lemmas.Iterator.{YieldsList-from_slice, IsFirst-from_position}
+use Rattle.skeleton.specs.Answers.{is_above, first_above}
+use Rattle.refusals.proofs.First.{first_in}
 use Rattle.skeleton.proofs.request.first_above.Goals as goal
 
-pub loop-k-init : goal.loop-k-init
-loop-k-init c = (search rules, below_none _)
-
-pub returns-then-st-k-gt2 : goal.returns-then-st-k-gt2
-unfolding first_above is_above
-returns-then-st-k-gt2 c = record { first = first_here _ _ _ (search rules) c.loop-k.invariant.1 (lt-ltb _ _ c.if-st-k-gt2.true) }
-
-pub loop-k-preserved : goal.loop-k-preserved
-unfolding is_above
-loop-k-preserved c = (search rules, below_more _ _ c.loop-k.invariant.1 (le-ltb _ _ c.if-st-k-gt2.false))
-
 pub returns : goal.returns
-unfolding first_above
-returns c = record { first = first_none _ _ _ (omega arith) c.loop-k.invariant.1 }
+unfolding first_above is_above
+returns c = record {
+  first =
+      first_in (ltb 2) c.args.st.now 0 _
+      (IsFirst-from_position _ _ _ (λ x. ltb 2 x ≡ true) (λ x. ltb 2 x ≡ false) c.position.ensures.ran
+      (YieldsList-from_slice c.args.st.now (search rules)) (λ x q k. search (rules, tests)) (λ x q k. search (rules, tests)));
+}

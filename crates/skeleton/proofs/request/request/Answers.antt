@@ -1,48 +1,51 @@
 -- `request::request` meets its contract. Assumes nothing.
-use mathlib.Core.Path.{sym, ap, ◌∙◌}
-use Rattle.refusals.specs.declared.Verdict.{Verdict}
+use mathlib.Core.Path.{sym, ap, ◌∙◌, subst}
+use mathlib.Core.List.{List}
+use lib.IntN.{ℤ}
+use Rattle.plane.specs.Marks.{count}
+use Rattle.pairs.specs.Pairs.{pair_count}
+use Rattle.certificates.specs.Rule9.{IsPair}
+use Rattle.std.proofs.lemmas.Result.{err_from_is_err_and}
+use Rattle.std.specs.Prelude.{Ok, Err}
+use Rattle.refusals.specs.Check.{Verdict}
+use Rattle.skeleton.specs.declared.request.Reply.{Reply}
 use Rattle.striking.specs.Status.{remaining}
 use Rattle.certificates.specs.Plate.{edges_of}
 use Rattle.skeleton.specs.Answers.{unless_refused, answer_in, answer_of}
 use Rattle.skeleton.proofs.Table.{accepted_list, accepted_long, accepted_request}
 use Rattle.skeleton.proofs.request.request.Goals as goal
 
-pub certify-requires-clause-plate : goal.certify-requires-clause-plate
-certify-requires-clause-plate c =
-    let e = accepted_request _ _ _ _ (sym c.check_request-v.ensures.answered ∙ c.in-Accepted.is) in
-    accepted_list _ _ e.0
-
-pub certify-requires-clause-st_len : goal.certify-requires-clause-st_len
-certify-requires-clause-st_len c =
-    let e = accepted_request _ _ _ _ (sym c.check_request-v.ensures.answered ∙ c.in-Accepted.is) in
-    accepted_long _ _ e.0
-
-pub certify-requires-clause-a_lt_b : goal.certify-requires-clause-a_lt_b
-certify-requires-clause-a_lt_b c =
-    let e = accepted_request _ _ _ _ (sym c.check_request-v.ensures.answered ∙ c.in-Accepted.is) in
-    e.1.up
-
-pub certify-requires-clause-b_is_mark : goal.certify-requires-clause-b_is_mark
-certify-requires-clause-b_is_mark c =
-    let e = accepted_request _ _ _ _ (sym c.check_request-v.ensures.answered ∙ c.in-Accepted.is) in
-    e.1.marks
-
-pub returns-in-Refused : goal.returns-in-Refused
+pub returns-in_err-check_request : goal.returns-in_err-check_request
 unfolding answer_of unless_refused
-returns-in-Refused c = record {
-  answered =
-      c.without.ensures.without ∙
-      sym (ap
-      (λ (v : Verdict). unless_refused v (answer_in c.args.m.now (edges_of c.args.m.now (remaining c.args.st.now)) c.args.a c.args.b))
-      (sym c.check_request-v.ensures.answered ∙ c.in-Refused.is));
-}
+returns-in_err-check_request c =
+    let p = err_from_is_err_and c.from_residual.result c.from_residual.ensures.1 in
+    record {
+      answered =
+          p.1 ∙ ap Err p.2 ∙
+          ap
+          (λ (v : Verdict). unless_refused v (answer_in c.args.m.now (edges_of c.args.m.now (remaining c.args.st.now)) c.args.a c.args.b))
+          c.in_err-check_request.ensures.answered;
+    }
 
-pub returns-in-Accepted : goal.returns-in-Accepted
+pub of-requires : goal.of-requires
+of-requires c = accepted_list _ _ (accepted_request _ _ _ _ (sym c.in_ok-check_request.ensures.answered)).0
+
+pub certify-requires : goal.certify-requires
+certify-requires c =
+    let e = accepted_request _ _ _ _ (sym c.in_ok-check_request.ensures.answered) in
+    let m = sym c.of.ensures in
+    record {
+      st_len = accepted_long _ _ e.0 ∙ ap (λ (x : List ℤ). pair_count (count x)) m;
+      pair = subst (λ (x : List ℤ). IsPair x c.args.a c.args.b) m e.1;
+    }
+
+pub returns : goal.returns
 unfolding answer_of unless_refused
-returns-in-Accepted c = record {
+returns c = record {
   answered =
-      c.certify.ensures.answered ∙
-      sym (ap
+      ap (λ (r : Reply). Ok r) (c.certify.ensures.answered ∙
+      ap (λ (x : List ℤ). answer_in x (edges_of x (remaining c.args.st.now)) c.args.a c.args.b) c.of.ensures) ∙
+      ap
       (λ (v : Verdict). unless_refused v (answer_in c.args.m.now (edges_of c.args.m.now (remaining c.args.st.now)) c.args.a c.args.b))
-      (sym c.check_request-v.ensures.answered ∙ c.in-Accepted.is));
+      c.in_ok-check_request.ensures.answered;
 }
