@@ -19,7 +19,8 @@ pub enum Kind {
     Inner,
 }
 
-// Mark k, which is on the line of a and b or not, lies on the segment and is no end of it.
+// Mark k, which is on the line of a and b or not, lies on the segment and is no end of it. The ends are told last: they are two of the marks, and
+// the tests before leave few others.
 #[tactic(auto, unfolding(crate::specs::Edge::clear, crate::specs::Edge::on_segment))]
 pub fn is_blocking(m: &Marks<'_>, a: usize, b: usize, k: usize, on: bool) -> bool
     requires a_is_mark { IsMark m.now a }
@@ -28,7 +29,7 @@ pub fn is_blocking(m: &Marks<'_>, a: usize, b: usize, k: usize, on: bool) -> boo
     requires on_value { on ≡ on_line (mark m.now a) (mark m.now b) (mark m.now k) }
     ensures blocking { result ≡ not (clear m.now a b k) }
 {
-    on && k != a && k != b && is_between(m.point(a), m.point(b), m.point(k))
+    on && is_between(m.point(a), m.point(b), m.point(k)) && k != a && k != b
 }
 
 pub fn kind_of(m: &Marks<'_>, a: usize, b: usize) -> Kind

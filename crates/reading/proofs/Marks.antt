@@ -103,7 +103,7 @@ module _ (t : List ℕ) where
       omega arith
 
 -- two numbers are stored behind those of `done`
-stored_two :
+pub stored_two :
     (done old : List ℤ) (i : ℕ) (x y : ℤ) → length done ≡ i → i + 2 ≤ length old →
     set (set (done ++ drop i old) i x) (i + 1) y ≡ done ++ (x ∷ y ∷ []) ++ drop (i + 2) old
 stored_two done old i x y e l =

@@ -2,8 +2,10 @@
 // and, where the mark is on the line, whether it lies on the segment.
 #![tactic(auto)]
 
-ghost use Rattle.std.specs.Prelude.{◌≡◌, ◌+◌, ◌*◌, ◌-◌, ◌^◌, ◌<◌, ◌≤◌};
-ghost use Rattle.plane.specs.Marks.{IsMark, Plate, count};
+ghost use Rattle.std.specs.Prelude.{◌≡◌, not, ◌+◌, ◌*◌, ◌-◌, ◌^◌, ◌<◌, ◌≤◌};
+ghost use Rattle.plane.specs.Marks.{mark, IsMark, Plate, count};
+ghost use Rattle.plane.specs.Side.{side};
+ghost use Rattle.plane.specs.Edge.{clear};
 ghost use Rattle.sets.specs.Sets.{bit};
 ghost use Rattle.sides.specs.Sides.{Passed, Found, kind_by};
 
@@ -28,6 +30,18 @@ fn push(w: u64, x: bool) -> u64
     w * 2 + u64::from(x)
 }
 
+// Mark k, whose side of a to b is s, lies on the segment and is no end of it. `is_blocking` is asked only on the line: asked at each mark, it took
+// 97.4 million instructions on the circle, where 95 are the most.
+fn blocks(m: &Marks<'_>, a: usize, b: usize, k: usize, s: i32) -> bool
+    requires a_is_mark { IsMark m.now a }
+    requires b_is_mark { IsMark m.now b }
+    requires k_is_mark { IsMark m.now k }
+    requires s_value { s ≡ side (mark m.now a) (mark m.now b) (mark m.now k) }
+    ensures blocking { result ≡ not (clear m.now a b k) }
+{
+    is_on(s) && is_blocking(m, a, b, k, true)
+}
+
 // The marks lo to hi - 1 against the pair (a, b). From the last to the first, so that each digit is pushed below the ones before it.
 fn pass_over(m: &Marks<'_>, a: usize, b: usize, lo: usize, hi: usize) -> Sides<u64>
     requires a_is_mark { IsMark m.now a }
@@ -46,8 +60,7 @@ fn pass_over(m: &Marks<'_>, a: usize, b: usize, lo: usize, hi: usize) -> Sides<u
         let s = side(p, q, m.point(k));
         left = push(left, is_left(s));
         right = push(right, is_right(s));
-        // Asked only on the line: asked at each mark, it took 97.4 million instructions on the circle, where 95 are the most.
-        if is_on(s) && is_blocking(m, a, b, k, true) {
+        if blocks(m, a, b, k, s) {
             clear = false;
         }
     }

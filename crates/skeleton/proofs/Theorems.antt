@@ -13,7 +13,7 @@
 use mathlib.Core.Path.{◌≡◌, refl, sym, ap, ◌∙◌, subst}
 use mathlib.Core.Logic.{◌↔◌, ◌⊎◌, ⊎_elim}
 use mathlib.Core.Bool.{Bool, true, false}
-use mathlib.Core.List.{List}
+use mathlib.Core.List.{List, [], ◌∷◌}
 use Prim.Native.Nat.{ℕ, ◌≤◌, ◌<◌}
 use native.Mathlib.Omega.{arith}
 use lib.ListN.{get_or, length, replicate}
@@ -29,12 +29,14 @@ use Rattle.striking.specs.Search.{answer8, search_result}
 use Rattle.striking.proofs.Tests.{same_test}
 use Rattle.striking.proofs.Theorems as striking
 use Rattle.skeleton.specs.declared.request.Reply.{Reply}
+use Rattle.skeleton.specs.declared.request.Reply.TheVariants.{Hull, NotEmpty, Certified, Uncertified}
 use Rattle.skeleton.specs.declared.search.Outcome.TheVariants.{Done, Paused}
+use Rattle.certificates.specs.declared.certificate.Certificate.{Certificate}
 use Rattle.certificates.specs.Certificate.{crossing, IsCertificate, HasCertificate, IsFirst, fits, first_certificate}
 use Rattle.certificates.specs.Plate.{plate}
 use Rattle.certificates.specs.Rule9.{IsPair, Kept, LocallyMinimal, Largest, ample}
 use Rattle.skeleton.specs.Answers.{search_refusal, answer_of, outcome_after, outcome_of, bytes_after, status_after, byte_after, remaining_edges}
-use Rattle.skeleton.specs.Answers.{shown_request, shown_search}
+use Rattle.skeleton.specs.Answers.{shown_request, shown_search, reply_certificate, certificate_shown}
 use Rattle.skeleton.specs.Table.{SearchRow, RequestRow, Lowest, None, IsAnswer}
 use Rattle.certificates.proofs.Rule7.{fits_certificate, certificate_fits}
 use Rattle.certificates.proofs.First.{nothing_none, found_first, first_found, none_nothing}
@@ -86,6 +88,22 @@ module _ (m : List ℤ) (st : List ℕ) (a b : ℕ) where
   -- certificate, or none; none exactly if there is none".
   pub answer_exactly : (x : Result Reply Refusal) → (answer_of m st a b ≡ x) ↔ IsAnswer m st a b x
   answer_exactly x = (λ e. subst (IsAnswer m st a b) e (the_answer m st a b), is_answer m st a b)
+
+-- The certificate that is told with an answer that has one is that one;
+pub told_certificate : (c : Certificate) → certificate_shown (Ok (Certified c)) ≡ c
+unfolding certificate_shown reply_certificate
+told_certificate c = refl
+
+-- and with any other answer, a refusal too, it is all zeros.
+pub told_zeros :
+    (x : Result Reply Refusal) → ((c : Certificate) → x ≡ Ok (Certified c) → ⊥) →
+    certificate_shown x ≡ record { r = 0; s = 0; sides = 0 ∷ 0 ∷ 0 ∷ 0 ∷ [] }
+unfolding certificate_shown reply_certificate
+told_zeros (Err f) other = refl
+told_zeros (Ok Hull) other = refl
+told_zeros (Ok NotEmpty) other = refl
+told_zeros (Ok (Certified c)) other = absurd (other c refl)
+told_zeros (Ok Uncertified) other = refl
 
 -- "Beyond answer 6, the byte of (a, b) itself plays no part."
 pub own_byte :
