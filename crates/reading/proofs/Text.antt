@@ -13,9 +13,11 @@ use Rattle.std.proofs.lemmas.List.{take_all}
 use Rattle.std.proofs.lemmas.List.Folds.{list_all_more}
 use Rattle.std.proofs.lemmas.List.Sums.{fold_more}
 use lib.Dec.{lit<}
+use borrow.Author.Tests.{le-ltb}
 use lib.IntN.{pos, neg_ℤ}
 use mir.Syntax.{w32}
 use mir.Val.{SFits}
+use Rattle.plane.proofs.Laws.Tells.{cond_no}
 use Rattle.reading.specs.Text.{place_of, after, Cut, dash, digit0, is_only, starts_with}
 use Rattle.reading.specs.Text.{all_digits, is_counting, is_number, value_of, is_coordinate, coordinate_of}
 use Rattle.reading.proofs.Tests.{and_yes, unless_yes}
@@ -107,6 +109,11 @@ module _ (k : ℕ) (p : List ℕ) (h : is_number k p ≡ true) where
           let o = and_yes (eqb (length p) 1) (eqb (get_or p 0 0) digit0) q in
           zero_digits p (eqb-true (length p) 1 o.0) (eqb-true (get_or p 0 0) digit0 o.1)
       go false q r = (unless_yes (starts_with digit0 p) (all_digits p) (and_yes (ltb 0 (length p)) (cond (starts_with digit0 p) false (all_digits p)) r).1).1
+
+  -- more digits are allowed, and it is a number still
+  pub number_wider : (m : ℕ) → k ≤ m → is_number m p ≡ true
+  unfolding is_number
+  number_wider m l = cond_no _ _ (le-ltb m (length p) (let n = number-length in omega arith)) ∙ number_kind
 
   pub number_below : value_of p < 10 ^ k
   number_below = whole_small p k number-length number_digits
